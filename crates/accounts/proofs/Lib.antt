@@ -1,0 +1,3 @@
+mod Incomplete
+mod Sounds
+mod Gaps

@@ -1,0 +1,5 @@
+pub mod Decimals
+pub mod Products
+pub mod Judging
+pub mod Charts
+pub mod Sums

@@ -1,0 +1,4 @@
+pub mod Pairs
+pub mod Bytes
+pub mod Composed
+pub mod Turns

@@ -1,0 +1,12 @@
+mod Totals
+mod Movements
+mod Says
+mod Founded
+mod Registers
+mod Accounts
+mod Kept
+mod Steps
+mod Settles
+mod Answered
+mod Lawful
+pub mod Telling
