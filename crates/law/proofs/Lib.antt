@@ -8,5 +8,5 @@ mod Kept
 mod Steps
 mod Settles
 mod Answered
-mod Lawful
+pub mod Lawful
 pub mod Telling
