@@ -53,7 +53,11 @@ pub fn load_in_range(n: u16, account: u8, number: u16, step: Step) -> Result<Add
 }
 
 // The account with one step more, if it is the next of its sort.
-pub fn with_step(account: Account, number: u16, addition: Addition) -> Result<Account, RegistryFault>
+pub fn with_step(
+    account: Account,
+    number: u16,
+    addition: Addition,
+) -> Result<Account, RegistryFault>
     requires { ⌜ Bounded 400 (account .profiled) ⌝ ∗ ⌜ Bounded 400 (account .losses) ⌝ ∗ ⌜ number ≤ 400 ⌝ ∗ ⌜ natAbs (addition .value) ≤ most-added ⌝ }
     ensures { λ r. ⌜ r ≡ cond (eqb number (steps-loaded (addition .sort) account + 1)) (Ok (grown-by (addition .sort) (addition .value) account)) (Err (RegistryFault.OutOfTurn 3)) ⌝ }
 {
@@ -62,13 +66,19 @@ pub fn with_step(account: Account, number: u16, addition: Addition) -> Result<Ac
             if number != account.profiled.loaded + 1 {
                 return Err(RegistryFault::OutOfTurn { field: 3 });
             }
-            Ok(Account { profiled: longer(account.profiled, addition.value), ..account })
+            Ok(Account {
+                profiled: longer(account.profiled, addition.value),
+                ..account
+            })
         }
         Sort::Losses => {
             if number != account.losses.loaded + 1 {
                 return Err(RegistryFault::OutOfTurn { field: 3 });
             }
-            Ok(Account { losses: longer(account.losses, addition.value), ..account })
+            Ok(Account {
+                losses: longer(account.losses, addition.value),
+                ..account
+            })
         }
     }
 }
@@ -78,7 +88,10 @@ fn longer(series: Series, value: i64) -> Series
     requires { ⌜ Bounded 399 series ⌝ ∗ ⌜ natAbs value ≤ most-added ⌝ }
     ensures { λ r. ⌜ r ≡ longer series value ⌝ }
 {
-    Series { loaded: series.loaded + 1, sum: series.sum + value }
+    Series {
+        loaded: series.loaded + 1,
+        sum: series.sum + value,
+    }
 }
 
 // A fault of fields that stand two places later in a call.
@@ -86,5 +99,7 @@ fn two_later(fault: OutOfRange) -> OutOfRange
     requires { ⌜ fault .field ≤ 7 ⌝ }
     ensures { λ r. ⌜ r .field ≡ fault .field + 2 ⌝ }
 {
-    OutOfRange { field: fault.field + 2 }
+    OutOfRange {
+        field: fault.field + 2,
+    }
 }

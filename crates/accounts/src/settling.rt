@@ -116,7 +116,10 @@ fn gap_of<L: Ledger>(ledger: &L, account: Account, terms: YearTerms) -> i64
     ensures answer { λ r. ⌜ r ≡ gap-of (terms .n) (terms .security) (L·Ledger .holding (now (ledger .entry))) account ⌝ }
     ensures bound { λ r. ⌜ gap-fine r ≡ true ⌝ }
 {
-    gap(holding_of(ledger, account.number), obligation_of(account, terms))
+    gap(
+        holding_of(ledger, account.number),
+        obligation_of(account, terms),
+    )
 }
 
 // What an account holds.

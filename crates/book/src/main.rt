@@ -20,9 +20,26 @@ const BLOCK: usize = 65_536;
 const WORKING: usize = 32;
 
 const NO_SERIES: Series = Series { loaded: 0, sum: 0 };
-const NO_ACCOUNT: Account = Account { number: 0, profiled: NO_SERIES, losses: NO_SERIES };
-const NO_ENTITY: Entity = Entity { number: 0, account: 0, method: Method::Dispatchable, level: 0 };
-const NO_OFFER: Offer = Offer { number: 0, seller: 0, buyer: 0, amount: 0 };
+
+const NO_ACCOUNT: Account = Account {
+    number: 0,
+    profiled: NO_SERIES,
+    losses: NO_SERIES,
+};
+
+const NO_ENTITY: Entity = Entity {
+    number: 0,
+    account: 0,
+    method: Method::Dispatchable,
+    level: 0,
+};
+
+const NO_OFFER: Offer = Offer {
+    number: 0,
+    seller: 0,
+    buyer: 0,
+    amount: 0,
+};
 
 fn main(rt: LibcRuntime) -> io::Result<()> {
     let mut accounts = [NO_ACCOUNT; 64];
@@ -47,14 +64,28 @@ fn main(rt: LibcRuntime) -> io::Result<()> {
             if from >= count {
                 break;
             }
-            let progress = answer_block(&mut book, &mut ledger, &mut buffer, &mut working, &block[from..count], &mut answers);
+            let progress = answer_block(
+                &mut book,
+                &mut ledger,
+                &mut buffer,
+                &mut working,
+                &block[from..count],
+                &mut answers,
+            );
             let written = progress.written;
             output.write_all(&answers[0..written])?;
             from += progress.taken;
         }
     }
     if !buffer.is_empty() {
-        if let Ok(length) = read_line(&mut book, &mut ledger, buffer.line(), &mut working, &mut answers, 0) {
+        if let Ok(length) = read_line(
+            &mut book,
+            &mut ledger,
+            buffer.line(),
+            &mut working,
+            &mut answers,
+            0,
+        ) {
             output.write_all(&answers[0..length])?;
         }
     }

@@ -31,6 +31,7 @@ wrong-character line room i le e = (omega (arith, le, ltb-true (first-wrong line
     go false true d w n k e = absurd (let z : _≡_ {A = ℕ} 0 1 = cc in omega arith)
     go false false true w n k e = absurd (let z : _≡_ {A = ℕ} 0 1 = cc in omega arith)
     go false false false w n k e = absurd (let z : _≡_ {A = ℕ} 0 1 = cc in omega arith)
+
     found : (ltb (first-wrong line) (length line) ≡ true) × (i ≡ first-wrong line)
     found = go (ltb (first-wrong line) (length line)) (eqb (length line % 2) 1) (ltb room (length line / 2)) (first-wrong line) (length line) (length line / 2) e
 
@@ -42,6 +43,7 @@ odd-count line room n le e = (omega (arith, le, found .2), short line _ _ le ∙
     go false true d w m k e = (refl, refl, cc)
     go false false true w m k e = absurd (let z : _≡_ {A = ℕ} 0 1 = cc in omega arith)
     go false false false w m k e = absurd (let z : _≡_ {A = ℕ} 0 1 = cc in omega arith)
+
     found : (ltb (first-wrong line) (length line) ≡ false) × (eqb (length line % 2) 1 ≡ true) × (n ≡ length line)
     found = go (ltb (first-wrong line) (length line)) (eqb (length line % 2) 1) (ltb room (length line / 2)) (first-wrong line) (length line) (length line / 2) e
 
@@ -62,6 +64,7 @@ whole-frame line front room n le e is = (omega (arith, le, found .2), short line
     go false true d w m k e = absurd (let z : _≡_ {A = ℕ} 0 1 = cc in omega arith)
     go false false true w m k e = absurd (let z : _≡_ {A = ℕ} 0 1 = cc in omega arith)
     go false false false w m k e = (refl, refl, cc)
+
     found : (ltb (first-wrong line) (length line) ≡ false) × (eqb (length line % 2) 1 ≡ false) × (n ≡ length line / 2)
     found = go (ltb (first-wrong line) (length line)) (eqb (length line % 2) 1) (ltb room (length line / 2)) (first-wrong line) (length line) (length line / 2) e
 

@@ -41,7 +41,7 @@ line-put space bytes part lent at r within long answer is =
     let a3 = append-assoc (digits bytes) (10 ∷ []) (drop (at + 2 * length bytes + 1) space) in
     let q : at + length (line-of bytes) ≡ at + 2 * length bytes + 1 = omega (arith, length-append (digits bytes) (10 ∷ [])) in
     let from : putMid at ((at + 2 * length bytes) - at) space lent ≡ (take at space ++ digits bytes) ++ (getD space (at + 2 * length bytes) 0 ∷ drop (at + 2 * length bytes + 1) space)
-        = ap (λ (t : ℕ). take at space ++ (lent ++ drop t (drop at space))) size ∙ ap (λ (t : List ℕ). take at space ++ (t ++ drop (2 * length bytes) (drop at space))) l ∙ ap (λ (t : List ℕ). take at space ++ (digits bytes ++ t)) (d ∙ m) ∙ sym a1 in
+    = ap (λ (t : ℕ). take at space ++ (lent ++ drop t (drop at space))) size ∙ ap (λ (t : List ℕ). take at space ++ (t ++ drop (2 * length bytes) (drop at space))) l ∙ ap (λ (t : List ℕ). take at space ++ (digits bytes ++ t)) (d ∙ m) ∙ sym a1 in
     let to : over space at (line-of bytes) ≡ take at space ++ (digits bytes ++ (10 ∷ drop (at + 2 * length bytes + 1) space))
-        = ap (λ (t : ℕ). take at space ++ (line-of bytes ++ drop t space)) q ∙ ap (λ (t : List ℕ). take at space ++ t) a3 in
+    = ap (λ (t : ℕ). take at space ++ (line-of bytes ++ drop t space)) q ∙ ap (λ (t : List ℕ). take at space ++ t) a3 in
     ap (λ (t : List ℕ). set t (at + 2 * length bytes) 10) from ∙ w ∙ a2 ∙ sym to

@@ -48,7 +48,7 @@ frame-length kind = cond (ltb kind 11) (Some (getD frame-lengths kind 0)) None
 -- The call of each kind, by the width and the place of each of its fields; gradients and temperatures are in two's complement.
 abbrev pub call-written : ℕ → List ℕ → Call
 call-written kind bytes = getD
-    ( Begin (field 2 1 bytes) (field 2 3 bytes)
+    (Begin (field 2 1 bytes) (field 2 3 bytes)
     ∷ Open (field 1 1 bytes)
     ∷ Certify (field 2 1 bytes) (field 1 3 bytes) (field 1 4 bytes) (field 4 5 bytes) (field 1 9 bytes) (field 2 10 bytes)
     ∷ Rebalance (field 2 1 bytes) (field 4 3 bytes) (field 1 7 bytes) (field 2 8 bytes)
@@ -56,14 +56,15 @@ call-written kind bytes = getD
     ∷ Accept (field 2 1 bytes) (field 1 3 bytes)
     ∷ Recall (field 2 1 bytes) (field 1 3 bytes)
     ∷ Load (field 1 1 bytes) (field 2 3 bytes)
-        (record {
-          sort = field 1 2 bytes;
-          metered = field 4 5 bytes;
-          shed = field 4 9 bytes;
-          gradient = toZ w32 (field 4 13 bytes);
-          coefficient = field 2 17 bytes;
-          real = toZ w16 (field 2 19 bytes);
-          extreme = toZ w16 (field 2 21 bytes) })
+    (record {
+      sort = field 1 2 bytes;
+      metered = field 4 5 bytes;
+      shed = field 4 9 bytes;
+      gradient = toZ w32 (field 4 13 bytes);
+      coefficient = field 2 17 bytes;
+      real = toZ w16 (field 2 19 bytes);
+      extreme = toZ w16 (field 2 21 bytes);
+    })
     ∷ Close
     ∷ Settle (field 4 1 bytes) (field 4 5 bytes)
     ∷ Report (field 1 1 bytes)

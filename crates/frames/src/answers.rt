@@ -66,8 +66,12 @@ fn reply_frame(kind: u8, reply: Reply) -> Frame
     match reply {
         Reply::Done => Frame::of(&[Field::Byte(0), Field::Byte(kind)]),
         Reply::Level(level) => Frame::of(&[Field::Byte(0), Field::Byte(kind), Field::Four(level)]),
-        Reply::Holding(holding) => Frame::of(&[Field::Byte(0), Field::Byte(kind), Field::Four(holding)]),
-        Reply::Returned(offers) => Frame::of(&[Field::Byte(0), Field::Byte(kind), Field::Two(offers)]),
+        Reply::Holding(holding) => Frame::of(
+            &[Field::Byte(0), Field::Byte(kind), Field::Four(holding)],
+        ),
+        Reply::Returned(offers) => Frame::of(
+            &[Field::Byte(0), Field::Byte(kind), Field::Two(offers)],
+        ),
         Reply::Figures(figures) => figures_frame(kind, figures),
         Reply::Stated(statement) => statement_frame(kind, statement),
     }
@@ -76,31 +80,41 @@ fn reply_frame(kind: u8, reply: Reply) -> Frame
 fn figures_frame(kind: u8, figures: Settlement) -> Frame
     ensures { λ r. ⌜ written r ≡ reply-bytes kind (Reply.Figures figures) ⌝ }
 {
-    Frame::of(&[
-        Field::Byte(0),
-        Field::Byte(kind),
-        Field::Four(figures.paid_price),
-        Field::Eight(figures.collected),
-        Field::Eight(figures.paid),
-        Field::Eight(figures.balance),
-    ])
+    Frame::of(
+        &[
+            Field::Byte(0),
+            Field::Byte(kind),
+            Field::Four(figures.paid_price),
+            Field::Eight(figures.collected),
+            Field::Eight(figures.paid),
+            Field::Eight(figures.balance),
+        ],
+    )
 }
 
 fn statement_frame(kind: u8, statement: Statement) -> Frame
     ensures { λ r. ⌜ written r ≡ reply-bytes kind (Reply.Stated statement) ⌝ }
 {
-    Frame::of(&[
-        Field::Byte(0),
-        Field::Byte(kind),
-        Field::Four(statement.holding),
-        Field::Four(statement.obligation),
-        Field::SignedFour(statement.gap),
-        Field::SignedEight(statement.amount),
-    ])
+    Frame::of(
+        &[
+            Field::Byte(0),
+            Field::Byte(kind),
+            Field::Four(statement.holding),
+            Field::Four(statement.obligation),
+            Field::SignedFour(statement.gap),
+            Field::SignedEight(statement.amount),
+        ],
+    )
 }
 
 fn refusal_frame(refusal: Refusal) -> Frame
     ensures { λ r. ⌜ written r ≡ refusal-bytes refusal ⌝ }
 {
-    Frame::of(&[Field::Byte(refusal.layer), Field::Byte(refusal.number), Field::Two(refusal.place)])
+    Frame::of(
+        &[
+            Field::Byte(refusal.layer),
+            Field::Byte(refusal.number),
+            Field::Two(refusal.place),
+        ],
+    )
 }

@@ -29,13 +29,41 @@ impl LineFault {
         ensures { λ r. ⌜ r ≡ line-refusal (now (self .entry)) ⌝ }
     {
         match self {
-            LineFault::TooLong => Refusal { layer: 1, number: 1, place: 64 },
-            LineFault::WrongCharacter(index) => Refusal { layer: 1, number: 2, place: u16::from(*index) },
-            LineFault::OddCount(count) => Refusal { layer: 1, number: 3, place: u16::from(*count) },
-            LineFault::NoBytes => Refusal { layer: 2, number: 1, place: 0 },
-            LineFault::UnknownKind(kind) => Refusal { layer: 2, number: 2, place: u16::from(*kind) },
-            LineFault::WrongLength(found) => Refusal { layer: 2, number: 3, place: u16::from(*found) },
-            LineFault::NoSpace => Refusal { layer: 2, number: 4, place: 0 },
+            LineFault::TooLong => Refusal {
+                layer: 1,
+                number: 1,
+                place: 64,
+            },
+            LineFault::WrongCharacter(index) => Refusal {
+                layer: 1,
+                number: 2,
+                place: u16::from(*index),
+            },
+            LineFault::OddCount(count) => Refusal {
+                layer: 1,
+                number: 3,
+                place: u16::from(*count),
+            },
+            LineFault::NoBytes => Refusal {
+                layer: 2,
+                number: 1,
+                place: 0,
+            },
+            LineFault::UnknownKind(kind) => Refusal {
+                layer: 2,
+                number: 2,
+                place: u16::from(*kind),
+            },
+            LineFault::WrongLength(found) => Refusal {
+                layer: 2,
+                number: 3,
+                place: u16::from(*found),
+            },
+            LineFault::NoSpace => Refusal {
+                layer: 2,
+                number: 4,
+                place: 0,
+            },
             LineFault::Registry(fault) => fault.refusal(),
         }
     }

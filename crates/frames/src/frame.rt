@@ -98,8 +98,13 @@ fn call_written(kind: u8, frame: &[u8]) -> Call
     ensures { λ r. ⌜ r ≡ call-written kind (now (frame .entry)) ⌝ }
 {
     match kind {
-        0 => Call::Begin { n: u16_at(frame, 1), security: u16_at(frame, 3) },
-        1 => Call::Open { account: u8_at(frame, 1) },
+        0 => Call::Begin {
+            n: u16_at(frame, 1),
+            security: u16_at(frame, 3),
+        },
+        1 => Call::Open {
+            account: u8_at(frame, 1),
+        },
         2 => Call::Certify {
             entity: u16_at(frame, 1),
             account: u8_at(frame, 3),
@@ -120,12 +125,23 @@ fn call_written(kind: u8, frame: &[u8]) -> Call
             buyer: u8_at(frame, 4),
             amount: u32_at(frame, 5),
         },
-        5 => Call::Accept { offer: u16_at(frame, 1), account: u8_at(frame, 3) },
-        6 => Call::Recall { offer: u16_at(frame, 1), account: u8_at(frame, 3) },
+        5 => Call::Accept {
+            offer: u16_at(frame, 1),
+            account: u8_at(frame, 3),
+        },
+        6 => Call::Recall {
+            offer: u16_at(frame, 1),
+            account: u8_at(frame, 3),
+        },
         7 => load_written(frame),
         8 => Call::Close,
-        9 => Call::Settle { shortage: u32_at(frame, 1), surplus: u32_at(frame, 5) },
-        _ => Call::Report { account: u8_at(frame, 1) },
+        9 => Call::Settle {
+            shortage: u32_at(frame, 1),
+            surplus: u32_at(frame, 5),
+        },
+        _ => Call::Report {
+            account: u8_at(frame, 1),
+        },
     }
 }
 
@@ -141,5 +157,9 @@ fn load_written(frame: &[u8]) -> Call
         real: i16_at(frame, 19),
         extreme: i16_at(frame, 21),
     };
-    Call::Load { account: u8_at(frame, 1), number: u16_at(frame, 3), step }
+    Call::Load {
+        account: u8_at(frame, 1),
+        number: u16_at(frame, 3),
+        step,
+    }
 }

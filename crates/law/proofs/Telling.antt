@@ -44,7 +44,8 @@ told-next start p c r y y′ f g m n called told =
       judged = (here .answer, told .shows, told .judged);
       year-is = here .year ∙ year-also r (did (year (facts p)) c) (facts p);
       holds-is = λ k. here .holds k ∙ holds-also start r (did (year (facts p)) c) (facts p) k;
-      shows = (here .posts .0, omega (arith, here .posts .1, posts-also r (did (year (facts p)) c))) }
+      shows = (here .posts .0, omega (arith, here .posts .1, posts-also r (did (year (facts p)) c)));
+    }
 
 -- and the law holds at the longer history
 pub lawful-next : (start : ℕ → ℕ) (p : Past) (c : Call) (r : Answer) (y y′ : Year) (f g : ℕ → ℕ) (m n : ℕ) → Called c r y y′ f g m n → Told start p y f m → Lawful-next start (event m c r) p y′ g n

@@ -30,7 +30,10 @@ pub up-to-byte : (s t : State) (block first answers : List ℕ) (i written : ℕ
 up-to-byte s t block first answers i written lt other so =
     record {
       answered = subst (λ (bytes : List ℕ). Answered s bytes (longer-line (getD block i 0) t) (take written answers)) (sym (take-more block i 0 lt)) (one-byte (getD block i 0) other (so .answered));
-      rest = so .rest; same-length = so .same-length; within = so .within }
+      rest = so .rest;
+      same-length = so .same-length;
+      within = so .within;
+    }
 
 -- the front and the rest of a space with a line written over it
 over-front : (answers line : List ℕ) (written : ℕ) → written + length line ≤ length answers → take (written + length line) (over answers written line) ≡ take written answers ++ line
@@ -71,7 +74,8 @@ up-to-line s block first w w′ a a′ line next i written n r y y′ f g p q lt
       answered = subst (λ (out : List ℕ). Answered s (take (i + 1) block) (record { line = next; year = y′; holds = g; posts = q }) out) front (subst (λ (bs : List ℕ). Answered s bs (record { line = next; year = y′; holds = g; posts = q }) (take written a ++ answer-line line y f p)) bytes (line-end (record { line = next; year = y′; holds = g; posts = q }) ended (so .answered)));
       rest = back ∙ rest-later a first written n (so .rest);
       same-length = same-size ∙ so .same-length;
-      within = omega (arith, fits, count, so .same-length) }
+      within = omega (arith, fits, count, so .same-length);
+    }
 
 -- a line without space for its answer leaves everything as it stood
 pub same-state : (y y′ : Year) (f g : ℕ → ℕ) (p q : ℕ) (line : List ℕ) → Unchanged y y′ f g p q → _≡_ {A = State} (record { line = line; year = y; holds = f; posts = p }) (record { line = line; year = y′; holds = g; posts = q })

@@ -36,7 +36,8 @@ pub fn answer_block<L: Ledger>(
     let mut written = 0;
     for (taken, byte) in block.iter().enumerate() {
         if *byte == LINE_END {
-            let Ok(length) = read_line(book, ledger, buffer.line(), working, answers, written) else {
+            let Ok(length) = read_line(book, ledger, buffer.line(), working, answers, written)
+            else {
                 return Progress { taken, written };
             };
             written += length;
@@ -45,5 +46,8 @@ pub fn answer_block<L: Ledger>(
             buffer.hold(*byte);
         }
     }
-    Progress { taken: block.len(), written }
+    Progress {
+        taken: block.len(),
+        written,
+    }
 }

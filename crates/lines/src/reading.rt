@@ -51,7 +51,10 @@ pub fn read_line<L: Ledger>(
     ensures bound { λ r. ⌜ made r (λ n. at + n ≤ length (now (answers .entry))) ⌝ }
     ensures answer { λ r. ⌜ Reading (spaces-fine (now (working .entry)) (now (answers .entry)) at) (now (line .entry)) (now (working .entry)) (now (working .exit)) (now (answers .entry)) (now (answers .exit)) at r (year-in (now (book .entry))) (year-in (now (book .exit))) (L·Ledger .holding (now (ledger .entry))) (L·Ledger .holding (now (ledger .exit))) (L·Ledger .posts (now (ledger .entry))) (L·Ledger .posts (now (ledger .exit))) ⌝ }
 {
-    if working.len() < WORKING_SPACE || answers.len() < ANSWER_SPACE || at > answers.len() - ANSWER_SPACE {
+    if working.len() < WORKING_SPACE
+        || answers.len() < ANSWER_SPACE
+        || at > answers.len() - ANSWER_SPACE
+    {
         return Err(LineFault::NoSpace);
     }
     let said = hear(book, ledger, line, working);
@@ -59,7 +62,12 @@ pub fn read_line<L: Ledger>(
 }
 
 // Makes the call that a line writes; the working space is cleared on every way out.
-fn hear<L: Ledger>(book: &mut Book<'_>, ledger: &mut L, line: &[u8], working: &mut [u8]) -> Result<(u8, Reply), LineFault>
+fn hear<L: Ledger>(
+    book: &mut Book<'_>,
+    ledger: &mut L,
+    line: &[u8],
+    working: &mut [u8],
+) -> Result<(u8, Reply), LineFault>
     requires { ⌜ 32 ≤ length (now working) ⌝ }
     ensures answer { λ r. ⌜ r ≡ said (now (line .entry)) (year-in (now (book .entry))) (L·Ledger .holding (now (ledger .entry))) (L·Ledger .posts (now (ledger .entry))) ⌝ }
     ensures cleared { λ _. ⌜ now (working .exit) ≡ replicate (length (now (working .entry))) 0 ⌝ }

@@ -37,7 +37,7 @@ room-at f all [] i d lt none = absurd (omega arith)
 room-at f all (o ∷ os) i d lt none = go (leb (f (o .seller) + all) limit) refl none i lt (λ i lt none. room-at f all os i d lt none)
   where
     go : (b : Bool) → leb (f (o .seller) + all) limit ≡ b → cond b (first-without-room f all os) (Some (o .seller)) ≡ None → (i : ℕ) → i < suc (length os)
-      → ((i : ℕ) → i < length os → first-without-room f all os ≡ None → f (getD os i d .seller) + all ≤ limit) → f (getD (o ∷ os) i d .seller) + all ≤ limit
+        → ((i : ℕ) → i < length os → first-without-room f all os ≡ None → f (getD os i d .seller) + all ≤ limit) → f (getD (o ∷ os) i d .seller) + all ≤ limit
     go true e n zero lt later = leb-true (f (o .seller) + all) limit e
     go true e n (suc i) lt later = later i (omega arith) n
     go false e n i lt later = absurd (let z : _≡_ {A = ℕ} 0 1 = cc in omega arith)
@@ -100,11 +100,11 @@ returned-next os i d f g h m n q r lt real enough room so is then fall =
     let most = so .most in
     record {
       holds = λ k.
-        let one = sumBy-more (λ o. to (o .seller) (o .amount) k) os i d lt in
-        let up = credited (eqb k (getD os i d .seller)) (g (getD os i d .seller)) (g k) (getD os i d .amount) (h k) (λ e. ap g (sym (eqb-true k (getD os i d .seller) e))) (after k) in
-        omega (arith, so .holds k, one, up);
+          let one = sumBy-more (λ o. to (o .seller) (o .amount) k) os i d lt in
+          let up = credited (eqb k (getD os i d .seller)) (g (getD os i d .seller)) (g k) (getD os i d .amount) (h k) (λ e. ap g (sym (eqb-true k (getD os i d .seller) e))) (after k) in
+          omega (arith, so .holds k, one, up);
       most = omega (arith, fell .0);
-      least = omega (arith, fell .1)
+      least = omega (arith, fell .1);
     }
 
 pub returned-none : (os : List Offer) (f : ℕ → ℕ) (m : ℕ) → Returned os 0 f f m m

@@ -38,7 +38,12 @@ pub fn lowest_holder<L: Ledger>(ledger: &L) -> Option<u8>
 }
 
 // Posts the difference between an old level and a new one: a raise is credited, a cut debited, no difference posts nothing.
-pub fn change_level<L: Ledger>(ledger: &mut L, account: u8, old: u32, new: u32) -> Result<Reply, RegistryFault>
+pub fn change_level<L: Ledger>(
+    ledger: &mut L,
+    account: u8,
+    old: u32,
+    new: u32,
+) -> Result<Reply, RegistryFault>
     ensures answer { λ r. ⌜ r ≡ levelling (L·Ledger .holding (now (ledger .entry))) (L·Ledger .posts (now (ledger .entry))) account old new ⌝ }
     ensures holds { λ r. ⌜ ((k : ℕ) → L·Ledger .holding (now (ledger .exit)) k ≡ cond (isOk r) ((L·Ledger .holding (now (ledger .entry)) k + to account (new - old) k) - to account (old - new) k) (L·Ledger .holding (now (ledger .entry)) k)) ⌝ }
     ensures posts { λ r. ⌜ (L·Ledger .posts (now (ledger .exit)) ≤ L·Ledger .posts (now (ledger .entry))) × (L·Ledger .posts (now (ledger .entry)) ≤ L·Ledger .posts (now (ledger .exit)) + cond (isOk r) (cond (eqb new old) 0 1) 0) ⌝ }

@@ -97,7 +97,8 @@ certify-called y f g m n i a number power hours days method level w entities tra
       answer = answer ∙ certify-judged y f m i a number power hours days method level trading fine opened free few is;
       year = ap (λ (es : List Entity). with-entities es y) (listed ∙ ap₂ (λ (k : Method) (l : ℕ). inserted entity-number (record { number = i; account = a; method = k; level = l }) (y .entities)) same so);
       holds = λ k. held k ∙ first-level (f k) a level k ∙ ap (λ (l : ℕ). f k + to a l k) so;
-      posts = (most, subst (λ (l : ℕ). m ≤ n + cond (eqb l 0) 0 1) so least) }
+      posts = (most, subst (λ (l : ℕ). m ≤ n + cond (eqb l 0) 0 1) so least);
+    }
 
 -- past the checks of a rebalancing, the ledger decides
 pub rebalance-judged : (y : Year) (f : ℕ → ℕ) (m i power hours days : ℕ) (e : Entity) (level : ℕ) → y .stage ≡ Trading

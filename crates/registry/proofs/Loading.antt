@@ -79,7 +79,8 @@ module _ (y : Year) (f : ℕ → ℕ) (m a t : ℕ) (s : Step) (added : Addition
         answer = sym (ap (λ (c : Bool). cond c (Ok Done) (Err (OutOfTurn 3))) b) ∙ load-judged y f m a t s added (Some x) stage fine found;
         year = ap (λ (zs : List Account). with-accounts zs y) (after ∙ ap (λ (g : Account). replaced account-number g (y .accounts)) grew ∙ sym (ap (λ (o : Option Account). grown-in o s (y .accounts)) found));
         holds = λ k. refl;
-        posts = (omega arith, omega arith) }
+        posts = (omega arith, omega arith);
+      }
 
 -- bounds of an account's series
 pub bounds-of : (n a : ℕ) (xs : List Account) (x : Account) → lookup account-number a xs ≡ Some x → Kept n xs → Bounded n (x .profiled) × Bounded n (x .losses)

@@ -13,4 +13,5 @@ year-in b =
       surplus = b .surplus;
       accounts = rows (b .accounts);
       entities = rows (b .entities);
-      offers = rows (b .offers) }
+      offers = rows (b .offers);
+    }

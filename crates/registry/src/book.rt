@@ -54,17 +54,35 @@ const OFFERS: usize = 32;
 
 impl<'a> Book<'a> {
     // A blank book, without records, in the places that are lent to it.
-    pub fn new(accounts: &'a mut [Account; 64], entities: &'a mut [Entity; 64], offers: &'a mut [Offer; 32]) -> Book<'a>
+    pub fn new(
+        accounts: &'a mut [Account; 64],
+        entities: &'a mut [Entity; 64],
+        offers: &'a mut [Offer; 32],
+    ) -> Book<'a>
         ensures { λ r. ⌜ year-in r ≡ blank-year ⌝ }
     {
         let accounts = Register::new(accounts);
         let entities = Register::new(entities);
         let offers = Register::new(offers);
-        Book { stage: Stage::Blank, n: 0, security: 0, shortage: 0, surplus: 0, accounts, entities, offers }
+        Book {
+            stage: Stage::Blank,
+            n: 0,
+            security: 0,
+            shortage: 0,
+            surplus: 0,
+            accounts,
+            entities,
+            offers,
+        }
     }
 
     // Starts trading, over a ledger that holds nothing.
-    pub(crate) fn begin<L: Ledger>(&mut self, ledger: &L, n: u16, security: u16) -> Result<Reply, RegistryFault>
+    pub(crate) fn begin<L: Ledger>(
+        &mut self,
+        ledger: &L,
+        n: u16,
+        security: u16,
+    ) -> Result<Reply, RegistryFault>
         requires { ⌜ now self .stage ≡ Stage.Blank ⌝ }
         ensures { λ r. ⌜ Called (Call.Begin n security) r (year-in (now (self .entry))) (year-in (now (self .exit))) (L·Ledger .holding (now (ledger .entry))) (L·Ledger .holding (now (ledger .entry))) (L·Ledger .posts (now (ledger .entry))) (L·Ledger .posts (now (ledger .entry))) ⌝ }
     {
@@ -89,7 +107,16 @@ impl<'a> Book<'a> {
         }
     }
 
-    pub(crate) fn certify<L: Ledger>(&mut self, ledger: &mut L, entity: u16, account: u8, method: u8, power: u32, hours: u8, days: u16) -> Result<Reply, RegistryFault>
+    pub(crate) fn certify<L: Ledger>(
+        &mut self,
+        ledger: &mut L,
+        entity: u16,
+        account: u8,
+        method: u8,
+        power: u32,
+        hours: u8,
+        days: u16,
+    ) -> Result<Reply, RegistryFault>
         requires { ⌜ now self .stage ≡ Stage.Trading ⌝ }
         ensures { λ r. ⌜ Called (Call.Certify entity account method power hours days) r (year-in (now (self .entry))) (year-in (now (self .exit))) (L·Ledger .holding (now (ledger .entry))) (L·Ledger .holding (now (ledger .exit))) (L·Ledger .posts (now (ledger .entry))) (L·Ledger .posts (now (ledger .exit))) ⌝ }
     {
@@ -105,12 +132,24 @@ impl<'a> Book<'a> {
             return Err(RegistryFault::RegisterFull);
         }
         let reply = change_level(ledger, account, 0, level)?;
-        let _ = self.entities.insert(Entity { number: entity, account, method, level });
+        let _ = self.entities.insert(Entity {
+            number: entity,
+            account,
+            method,
+            level,
+        });
         Ok(reply)
     }
 
     // Works the level out again by the entity's own method.
-    pub(crate) fn rebalance<L: Ledger>(&mut self, ledger: &mut L, entity: u16, power: u32, hours: u8, days: u16) -> Result<Reply, RegistryFault>
+    pub(crate) fn rebalance<L: Ledger>(
+        &mut self,
+        ledger: &mut L,
+        entity: u16,
+        power: u32,
+        hours: u8,
+        days: u16,
+    ) -> Result<Reply, RegistryFault>
         requires { ⌜ now self .stage ≡ Stage.Trading ⌝ }
         ensures { λ r. ⌜ Called (Call.Rebalance entity power hours days) r (year-in (now (self .entry))) (year-in (now (self .exit))) (L·Ledger .holding (now (ledger .entry))) (L·Ledger .holding (now (ledger .exit))) (L·Ledger .posts (now (ledger .entry))) (L·Ledger .posts (now (ledger .exit))) ⌝ }
     {
@@ -124,7 +163,14 @@ impl<'a> Book<'a> {
         Ok(reply)
     }
 
-    pub(crate) fn offer<L: Ledger>(&mut self, ledger: &mut L, offer: u16, seller: u8, buyer: u8, amount: u32) -> Result<Reply, RegistryFault>
+    pub(crate) fn offer<L: Ledger>(
+        &mut self,
+        ledger: &mut L,
+        offer: u16,
+        seller: u8,
+        buyer: u8,
+        amount: u32,
+    ) -> Result<Reply, RegistryFault>
         requires { ⌜ now self .stage ≡ Stage.Trading ⌝ }
         ensures { λ r. ⌜ Called (Call.Offer offer seller buyer amount) r (year-in (now (self .entry))) (year-in (now (self .exit))) (L·Ledger .holding (now (ledger .entry))) (L·Ledger .holding (now (ledger .exit))) (L·Ledger .posts (now (ledger .entry))) (L·Ledger .posts (now (ledger .exit))) ⌝ }
     {
@@ -145,11 +191,21 @@ impl<'a> Book<'a> {
             return Err(RegistryFault::RegisterFull);
         }
         let holding = ledger.debit(seller, amount)?;
-        let _ = self.offers.insert(Offer { number: offer, seller, buyer, amount });
+        let _ = self.offers.insert(Offer {
+            number: offer,
+            seller,
+            buyer,
+            amount,
+        });
         Ok(Reply::Holding(holding))
     }
 
-    pub(crate) fn accept<L: Ledger>(&mut self, ledger: &mut L, offer: u16, account: u8) -> Result<Reply, RegistryFault>
+    pub(crate) fn accept<L: Ledger>(
+        &mut self,
+        ledger: &mut L,
+        offer: u16,
+        account: u8,
+    ) -> Result<Reply, RegistryFault>
         requires { ⌜ now self .stage ≡ Stage.Trading ⌝ }
         ensures { λ r. ⌜ Called (Call.Accept offer account) r (year-in (now (self .entry))) (year-in (now (self .exit))) (L·Ledger .holding (now (ledger .entry))) (L·Ledger .holding (now (ledger .exit))) (L·Ledger .posts (now (ledger .entry))) (L·Ledger .posts (now (ledger .exit))) ⌝ }
     {
@@ -160,7 +216,12 @@ impl<'a> Book<'a> {
         self.end(ledger, found, found.buyer, account)
     }
 
-    pub(crate) fn recall<L: Ledger>(&mut self, ledger: &mut L, offer: u16, account: u8) -> Result<Reply, RegistryFault>
+    pub(crate) fn recall<L: Ledger>(
+        &mut self,
+        ledger: &mut L,
+        offer: u16,
+        account: u8,
+    ) -> Result<Reply, RegistryFault>
         requires { ⌜ now self .stage ≡ Stage.Trading ⌝ }
         ensures { λ r. ⌜ Called (Call.Recall offer account) r (year-in (now (self .entry))) (year-in (now (self .exit))) (L·Ledger .holding (now (ledger .entry))) (L·Ledger .holding (now (ledger .exit))) (L·Ledger .posts (now (ledger .entry))) (L·Ledger .posts (now (ledger .exit))) ⌝ }
     {
@@ -172,7 +233,13 @@ impl<'a> Book<'a> {
     }
 
     // Ends an offer for one of its parties, if that is the account that asks.
-    fn end<L: Ledger>(&mut self, ledger: &mut L, offer: Offer, party: u8, account: u8) -> Result<Reply, RegistryFault>
+    fn end<L: Ledger>(
+        &mut self,
+        ledger: &mut L,
+        offer: Offer,
+        party: u8,
+        account: u8,
+    ) -> Result<Reply, RegistryFault>
         ensures answer { λ r. ⌜ r ≡ ending (L·Ledger .holding (now (ledger .entry))) (L·Ledger .posts (now (ledger .entry))) (λ _. party) (Some offer) account ⌝ }
         ensures after { λ r. ⌜ year-in (now (self .exit)) ≡ cond (isOk r) (after (ended offer party) (year-in (now (self .entry)))) (year-in (now (self .entry))) ⌝ }
         ensures holds { λ r. ⌜ ((k : ℕ) → L·Ledger .holding (now (ledger .exit)) k ≡ cond (isOk r) (L·Ledger .holding (now (ledger .entry)) k + to party (offer .amount) k) (L·Ledger .holding (now (ledger .entry)) k)) ⌝ }
@@ -187,7 +254,12 @@ impl<'a> Book<'a> {
     }
 
     // Adds a step to one of the account's two series.
-    pub(crate) fn load(&mut self, account: u8, number: u16, step: Step) -> Result<Reply, RegistryFault>
+    pub(crate) fn load(
+        &mut self,
+        account: u8,
+        number: u16,
+        step: Step,
+    ) -> Result<Reply, RegistryFault>
         requires { ⌜ (is-trading (now self .stage) || is-closed (now self .stage)) ≡ true ⌝ }
         ensures { λ r. ⌜ ((f : ℕ → ℕ) (m : ℕ) → Called (Call.Load account number step) r (year-in (now (self .entry))) (year-in (now (self .exit))) f f m m) ⌝ }
     {
@@ -219,7 +291,12 @@ impl<'a> Book<'a> {
     }
 
     // Works out the settlement at two prices, and keeps the prices.
-    pub(crate) fn settle<L: Ledger>(&mut self, ledger: &L, shortage: u32, surplus: u32) -> Result<Reply, RegistryFault>
+    pub(crate) fn settle<L: Ledger>(
+        &mut self,
+        ledger: &L,
+        shortage: u32,
+        surplus: u32,
+    ) -> Result<Reply, RegistryFault>
         requires { ⌜ now self .stage ≡ Stage.Closed ⌝ }
         ensures { λ r. ⌜ Called (Call.Settle shortage surplus) r (year-in (now (self .entry))) (year-in (now (self .exit))) (L·Ledger .holding (now (ledger .entry))) (L·Ledger .holding (now (ledger .entry))) (L·Ledger .posts (now (ledger .entry))) (L·Ledger .posts (now (ledger .entry))) ⌝ }
     {
@@ -227,8 +304,16 @@ impl<'a> Book<'a> {
         if let Some(account) = first_incomplete(self.accounts.records(), self.n) {
             return Err(RegistryFault::Incomplete { account });
         }
-        let terms = YearTerms { n: self.n, security: self.security };
-        let figures = settlement(ledger, self.accounts.records(), terms, Prices { shortage, surplus });
+        let terms = YearTerms {
+            n: self.n,
+            security: self.security,
+        };
+        let figures = settlement(
+            ledger,
+            self.accounts.records(),
+            terms,
+            Prices { shortage, surplus },
+        );
         self.shortage = shortage;
         self.surplus = surplus;
         self.stage = Stage::Settled;
@@ -243,8 +328,14 @@ impl<'a> Book<'a> {
         let Some(found) = self.accounts.find(u16::from(account)) else {
             return Err(RegistryFault::NotOpen { field: 1 });
         };
-        let terms = YearTerms { n: self.n, security: self.security };
-        let prices = Prices { shortage: self.shortage, surplus: self.surplus };
+        let terms = YearTerms {
+            n: self.n,
+            security: self.security,
+        };
+        let prices = Prices {
+            shortage: self.shortage,
+            surplus: self.surplus,
+        };
         Ok(Reply::Stated(statement(ledger, self.accounts.records(), found, terms, prices)))
     }
 
@@ -275,5 +366,9 @@ fn new_account(number: u8) -> Account
     ensures { λ r. ⌜ r ≡ new-account number ⌝ }
 {
     let none = Series { loaded: 0, sum: 0 };
-    Account { number, profiled: none, losses: none }
+    Account {
+        number,
+        profiled: none,
+        losses: none,
+    }
 }

@@ -27,21 +27,67 @@ impl<'a> Book<'a> {
         match (self.stage, call) {
             (Stage::Blank, Call::Begin { n, security }) => self.begin(ledger, n, security),
             (Stage::Trading, Call::Open { account }) => self.open(account),
-            (Stage::Trading, Call::Certify { entity, account, method, power, hours, days }) => {
-                self.certify(ledger, entity, account, method, power, hours, days)
-            }
-            (Stage::Trading, Call::Rebalance { entity, power, hours, days }) => {
-                self.rebalance(ledger, entity, power, hours, days)
-            }
-            (Stage::Trading, Call::Offer { offer, seller, buyer, amount }) => {
-                self.offer(ledger, offer, seller, buyer, amount)
-            }
-            (Stage::Trading, Call::Accept { offer, account }) => self.accept(ledger, offer, account),
-            (Stage::Trading, Call::Recall { offer, account }) => self.recall(ledger, offer, account),
-            (Stage::Trading, Call::Load { account, number, step }) => self.load(account, number, step),
-            (Stage::Closed, Call::Load { account, number, step }) => self.load(account, number, step),
+            (
+                Stage::Trading,
+                Call::Certify {
+                    entity,
+                    account,
+                    method,
+                    power,
+                    hours,
+                    days,
+                },
+            ) => { self.certify(ledger, entity, account, method, power, hours, days) }
+            (
+                Stage::Trading,
+                Call::Rebalance {
+                    entity,
+                    power,
+                    hours,
+                    days,
+                },
+            ) => { self.rebalance(ledger, entity, power, hours, days) }
+            (
+                Stage::Trading,
+                Call::Offer {
+                    offer,
+                    seller,
+                    buyer,
+                    amount,
+                },
+            ) => { self.offer(ledger, offer, seller, buyer, amount) }
+            (Stage::Trading, Call::Accept { offer, account }) => self.accept(
+                ledger,
+                offer,
+                account,
+            ),
+            (Stage::Trading, Call::Recall { offer, account }) => self.recall(
+                ledger,
+                offer,
+                account,
+            ),
+            (
+                Stage::Trading,
+                Call::Load {
+                    account,
+                    number,
+                    step,
+                },
+            ) => self.load(account, number, step),
+            (
+                Stage::Closed,
+                Call::Load {
+                    account,
+                    number,
+                    step,
+                },
+            ) => self.load(account, number, step),
             (Stage::Trading, Call::Close) => self.close(ledger),
-            (Stage::Closed, Call::Settle { shortage, surplus }) => self.settle(ledger, shortage, surplus),
+            (Stage::Closed, Call::Settle { shortage, surplus }) => self.settle(
+                ledger,
+                shortage,
+                surplus,
+            ),
             (Stage::Settled, Call::Report { account }) => self.report(ledger, account),
             _ => Err(RegistryFault::WrongStage),
         }

@@ -55,7 +55,14 @@ pub fn number_in_range(number: u16) -> Result<(), OutOfRange>
 }
 
 // The method that is asked for, if every field of a certification is in range.
-pub fn certify_in_range(entity: u16, account: u8, method: u8, power: u32, hours: u8, days: u16) -> Result<Method, OutOfRange>
+pub fn certify_in_range(
+    entity: u16,
+    account: u8,
+    method: u8,
+    power: u32,
+    hours: u8,
+    days: u16,
+) -> Result<Method, OutOfRange>
     ensures { λ r. ⌜ r ≡ judged 1 (number-fine entity ∷ known account ∷ within 1 4 method ∷ supply-fine power hours days) (method-at method) ⌝ }
 {
     number_in_range(entity)?;
@@ -113,5 +120,7 @@ fn two_later(fault: OutOfRange) -> OutOfRange
     requires { ⌜ fault .field ≤ 7 ⌝ }
     ensures { λ r. ⌜ r .field ≡ fault .field + 2 ⌝ }
 {
-    OutOfRange { field: fault.field + 2 }
+    OutOfRange {
+        field: fault.field + 2,
+    }
 }

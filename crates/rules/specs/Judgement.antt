@@ -42,7 +42,6 @@ abbrev pub Check : Type 0
 Check = Bool × RegistryFault
 
 infix 70 _else_
-
 abbrev pub _else_ : Bool → RegistryFault → Check
 _else_ fine fault = (fine, fault)
 
@@ -109,7 +108,7 @@ lowest-holder f (suc n) a = cond (eqb (f a) 0) (lowest-holder f n (a + 1)) (Some
 abbrev pub levelling : (ℕ → ℕ) → ℕ → ℕ → ℕ → ℕ → Answer
 levelling f m a old new =
     cond (eqb new old) (Ok (Level new))
-      (passed-on (λ _. Level new) (cond (ltb old new) (crediting f m a (new - old)) (debiting f m a (old - new))))
+    (passed-on (λ _. Level new) (cond (ltb old new) (crediting f m a (new - old)) (debiting f m a (old - new))))
 
 abbrev pub rebalancing : (ℕ → ℕ) → ℕ → Option Entity → ℕ → ℕ → ℕ → Answer
 rebalancing f m None power hours days = Err (Unknown 1)
@@ -144,24 +143,24 @@ ruling y f m (Begin n security) = unless (lowest-holder f 64 1) NotEmpty (Ok Don
 ruling y f m (Open a) = walk (not (is-open y a) else InUse 1 ∷ []) (Ok Done)
 ruling y f m (Certify i a method power hours days) =
     walk (is-open y a else NotOpen 2
-        ∷ not (isSome (entity-in y i)) else InUse 1
-        ∷ ltb (length (y .entities)) 64 else RegisterFull ∷ [])
-      (levelling f m a 0 (guarantees (method-at method) power hours days))
+    ∷ not (isSome (entity-in y i)) else InUse 1
+    ∷ ltb (length (y .entities)) 64 else RegisterFull ∷ [])
+    (levelling f m a 0 (guarantees (method-at method) power hours days))
 ruling y f m (Rebalance i power hours days) = rebalancing f m (entity-in y i) power hours days
 ruling y f m (MakeOffer i s b x) =
     walk (is-open y s else NotOpen 2
-        ∷ is-open y b else NotOpen 3
-        ∷ not (eqb s b) else WrongParty 3
-        ∷ not (isSome (offer-in y i)) else InUse 1
-        ∷ ltb (length (y .offers)) 32 else RegisterFull ∷ [])
-      (passed-on Holding (debiting f m s x))
+    ∷ is-open y b else NotOpen 3
+    ∷ not (eqb s b) else WrongParty 3
+    ∷ not (isSome (offer-in y i)) else InUse 1
+    ∷ ltb (length (y .offers)) 32 else RegisterFull ∷ [])
+    (passed-on Holding (debiting f m s x))
 ruling y f m (Accept i a) = ending f m (λ o. o .buyer) (offer-in y i) a
 ruling y f m (Recall i a) = ending f m (λ o. o .seller) (offer-in y i) a
 ruling y f m (Load a t s) = loading (account-in y a) (sort-at (s .sort)) t
 ruling y f m Close =
     walk (leb (length (y .offers)) m else PostsShort ∷ [])
-      (unless (first-without-room f (sumBy offered-amount (y .offers)) (y .offers)) (λ a. Ledger (PastLimit a))
-        (Ok (Returned (length (y .offers)))))
+    (unless (first-without-room f (sumBy offered-amount (y .offers)) (y .offers)) (λ a. Ledger (PastLimit a))
+    (Ok (Returned (length (y .offers)))))
 ruling y f m (Settle u v) = unless (first-incomplete (y .n) (y .accounts)) Incomplete (Ok (Figures (settlement-of u v (gaps-of (y .n) (y .security) f (y .accounts)))))
 ruling y f m (Report a) = reporting y f (account-in y a)
 

@@ -47,4 +47,5 @@ statement-of n security u v f accounts a =
       holding = f (a .number);
       obligation = obligation-of n security a;
       gap = gap-of n security f a;
-      amount = amount u (paid-price u v (gaps-of n security f accounts)) (gap-of n security f a) }
+      amount = amount u (paid-price u v (gaps-of n security f accounts)) (gap-of n security f a);
+    }

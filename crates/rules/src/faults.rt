@@ -60,7 +60,11 @@ impl RegistryFault {
 fn of_the_book(number: u8, place: u8) -> Refusal
     ensures { λ r. ⌜ r ≡ of-the-book number place ⌝ }
 {
-    Refusal { layer: 3, number, place: u16::from(place) }
+    Refusal {
+        layer: 3,
+        number,
+        place: u16::from(place),
+    }
 }
 
 pub impl From<OutOfRange> for RegistryFault as RangeFault {

@@ -21,7 +21,12 @@ pub struct Outcome {
 // Makes the calls in turn, as far as there are places for their outcomes, and gives their number.
 // From a new book on, over any ledger in any state, the law holds after every call, and what the book and the ledger then hold
 // is what this history says.
-pub fn run<L: Ledger>(book: &mut Book<'_>, ledger: &mut L, calls: &[Call], outcomes: &mut [Outcome]) -> usize
+pub fn run<L: Ledger>(
+    book: &mut Book<'_>,
+    ledger: &mut L,
+    calls: &[Call],
+    outcomes: &mut [Outcome],
+) -> usize
     ensures bound { λ r. ⌜ r ≡ min (length (now (calls .entry))) (length (now (outcomes .entry))) ⌝ }
     ensures law { λ r. ⌜ (year-in (now (book .entry)) ≡ blank-year → Ran (L·Ledger .holding (now (ledger .entry))) (history r (now (calls .entry)) (now (outcomes .exit))) (year-in (now (book .exit))) (L·Ledger .holding (now (ledger .exit))) (L·Ledger .posts (now (ledger .exit)))) ⌝ }
 {

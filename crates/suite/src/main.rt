@@ -27,10 +27,32 @@ const ANSWERS: usize = 65_536;
 const PLACES: usize = 4_096;
 
 const NO_SERIES: Series = Series { loaded: 0, sum: 0 };
-const NO_ACCOUNT: Account = Account { number: 0, profiled: NO_SERIES, losses: NO_SERIES };
-const NO_ENTITY: Entity = Entity { number: 0, account: 0, method: Method::Dispatchable, level: 0 };
-const NO_OFFER: Offer = Offer { number: 0, seller: 0, buyer: 0, amount: 0 };
-const NO_MOVEMENT: Movement = Movement { account: 0, amount: 0, side: Side::Credit };
+
+const NO_ACCOUNT: Account = Account {
+    number: 0,
+    profiled: NO_SERIES,
+    losses: NO_SERIES,
+};
+
+const NO_ENTITY: Entity = Entity {
+    number: 0,
+    account: 0,
+    method: Method::Dispatchable,
+    level: 0,
+};
+
+const NO_OFFER: Offer = Offer {
+    number: 0,
+    seller: 0,
+    buyer: 0,
+    amount: 0,
+};
+
+const NO_MOVEMENT: Movement = Movement {
+    account: 0,
+    amount: 0,
+    side: Side::Credit,
+};
 
 // Writes the answers to a whole input, from a new book over the ledger.
 fn answer_all<L: Ledger>(rt: &LibcRuntime, ledger: &mut L, input: &[u8]) -> io::Result<()> {
@@ -47,13 +69,27 @@ fn answer_all<L: Ledger>(rt: &LibcRuntime, ledger: &mut L, input: &[u8]) -> io::
         if from >= input.len() {
             break;
         }
-        let progress = answer_block(&mut book, ledger, &mut buffer, &mut working, &input[from..], &mut answers);
+        let progress = answer_block(
+            &mut book,
+            ledger,
+            &mut buffer,
+            &mut working,
+            &input[from..],
+            &mut answers,
+        );
         let written = progress.written;
         output.write_all(&answers[0..written])?;
         from += progress.taken;
     }
     if !buffer.is_empty() {
-        if let Ok(length) = read_line(&mut book, ledger, buffer.line(), &mut working, &mut answers, 0) {
+        if let Ok(length) = read_line(
+            &mut book,
+            ledger,
+            buffer.line(),
+            &mut working,
+            &mut answers,
+            0,
+        ) {
             output.write_all(&answers[0..length])?;
         }
     }

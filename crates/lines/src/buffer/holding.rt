@@ -12,7 +12,10 @@ impl LineBuffer {
     pub fn new() -> LineBuffer
         ensures { λ r. ⌜ pending r ≡ [] ⌝ }
     {
-        LineBuffer { held: [0; HELD], count: 0 }
+        LineBuffer {
+            held: [0; HELD],
+            count: 0,
+        }
     }
 
     // The bytes held so far.

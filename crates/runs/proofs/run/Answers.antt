@@ -33,9 +33,11 @@ loop-i-again g c =
     let within : i < length outcomes = omega arith in
     let more = history-more calls outcomes i call outcome within (getD-default calls i (Begin 0 0) Close (omega arith)) in
     let shown : event (c .left-shown .result) call answer ∷ history i calls outcomes ≡ event (m .posts (c .loop-i .ledger)) call answer ∷ history i calls outcomes = ap (λ n. event n call answer ∷ history i calls outcomes) (c .left-shown .ensures) in
-    let P : Past → Type 0 = λ p. Ran start p (year-in (c .call-answer .last .self)) (m .holding (c .call-answer .last .ledger)) (m .posts (c .call-answer .last .ledger)) in
-    (omega arith, simp length-set (c .loop-i .inv .1),
-     λ blank. subst P (sym (more ∙ shown)) (ran-next start (history i calls outcomes) call answer _ _ _ _ _ _ (c .call-answer .ensures .called) (c .loop-i .inv .2 blank)))
+    let P : Past → Type 0 = λ p. Ran start p (year-in (c .call-answer .last .self)) (m .holding (c .call-answer .last .ledger)) (m .posts (c .call-answer .last .ledger)) in (
+      omega arith,
+      simp length-set (c .loop-i .inv .1),
+      λ blank. subst P (sym (more ∙ shown)) (ran-next start (history i calls outcomes) call answer _ _ _ _ _ _ (c .call-answer .ensures .called) (c .loop-i .inv .2 blank)),
+    )
 
 pub returns : need.returns
 returns g c =

@@ -15,4 +15,5 @@ returns c =
     record {
       after = line-put (c .args .answers .now) bytes _ (c .write-hex .last .out) (c .args .at) (c .write-hex .result) (omega (arith, c .bytes-bytes .ensures .bound)) (simp (length-take, length-drop) (omega (arith, c .bytes-bytes .ensures .bound))) (c .write-hex .ensures .answer) (c .write-hex .ensures .after) ∙ ap (λ (b : List ℕ). over (c .args .answers .now) (c .args .at) (line-of b)) same;
       answer = line-length bytes ∙ ap (λ (b : List ℕ). length (line-of b)) same;
-      bound = omega (arith, c .bytes-bytes .ensures .bound) }
+      bound = omega (arith, c .bytes-bytes .ensures .bound);
+    }

@@ -24,7 +24,8 @@ give-back-requires g c κs =
     record {
       real = subst (λ (os : List Offer). ∥ Real os ∥₁) (sym same) (c .args .self .now .real);
       posts = subst (λ (os : List Offer). length os ≤ g .L·Ledger .posts (c .args .ledger .now)) (sym same) enough;
-      room = subst (λ (os : List Offer). first-without-room (g .L·Ledger .holding (c .args .ledger .now)) (sumBy offered-amount os) os ≡ None) (c .records .ensures .answer ∙ sym same) (sym (c .in-rest .ensures tt)) }
+      room = subst (λ (os : List Offer). first-without-room (g .L·Ledger .holding (c .args .ledger .now)) (sumBy offered-amount os) os ≡ None) (c .records .ensures .answer ∙ sym same) (sym (c .in-rest .ensures tt));
+    }
 
 pub ghost-self : need.ghost-self
 ghost-self g c =

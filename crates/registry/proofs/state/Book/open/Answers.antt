@@ -35,7 +35,7 @@ returns-in-Err c f m =
     let in-range = sym (c .in-Continue-account-in-range .ensures tt) in
     let is-known = fine-if-accepted 1 (known (c .args .account) ∷ []) tt tt in-range .0 in
     let opened : isSome (lookup account-number (c .args .account) (rows (c .args .self .now .accounts))) ≡ true
-        = ∥∥₁-elim (s .kept) (Bool-set _ _) (λ kept. refused-in-use (c .args .account) (c .new-account .result) (room (s .accounts)) (rows (s .accounts)) (c .in-Err .field-0) (c .new-account .ensures) is-known (s .rooms .0) (kept .0) (e .answer)) in
+    = ∥∥₁-elim (s .kept) (Bool-set _ _) (λ kept. refused-in-use (c .args .account) (c .new-account .result) (room (s .accounts)) (rows (s .accounts)) (c .in-Err .field-0) (c .new-account .ensures) is-known (s .rooms .0) (kept .0) (e .answer)) in
     let trading = ap (needs (Open (c .args .account))) (c .pre) in
     let is = judged-by-ruling (Open (c .args .account)) (year-in s) f m tt tt (Err (InUse 1)) trading in-range (open-ruled (year-in s) f m (c .args .account) opened) in
     subst (λ (xs : List Account). Called (Open (c .args .account)) (Err (InUse 1)) (year-in s) (with-accounts xs (year-in s)) f f m m) (sym (e .after)) (refused (Open (c .args .account)) (InUse 1) (year-in s) f f m m is (λ k. refl) (omega arith) (omega arith))

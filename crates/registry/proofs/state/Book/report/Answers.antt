@@ -18,4 +18,5 @@ statement-requires g c κs =
       kept = subst (λ (xs : List Account). ∥ Kept (s .n) xs ∥₁) (sym same) (s .kept);
       terms = terms-settled (s .stage) (s .n) (s .security) (c .pre) (s .terms);
       prices = s .prices;
-      found = subst (λ (xs : List Account). lookup account-number (c .in-Some .found .number) xs ≡ Some (c .in-Some .found)) (sym same) (found-by-number (c .from .result) (rows (s .accounts)) (c .in-Some .found) (c .in-Some .ensures tt)) }
+      found = subst (λ (xs : List Account). lookup account-number (c .in-Some .found .number) xs ≡ Some (c .in-Some .found)) (sym same) (found-by-number (c .from .result) (rows (s .accounts)) (c .in-Some .found) (c .in-Some .ensures tt));
+    }

@@ -17,4 +17,5 @@ settlement-figures-requires g c κs =
     record {
       kept = subst (λ (xs : List Account). ∥ Kept (s .n) xs ∥₁) (sym (c .records-2 .ensures .answer)) (s .kept);
       terms = terms-closed (s .stage) (s .n) (s .security) (c .pre) (s .terms);
-      prices = (leb-true (c .args .shortage) highest-price (fine .0), leb-true (c .args .surplus) highest-price (fine .1 .0)) }
+      prices = (leb-true (c .args .shortage) highest-price (fine .0), leb-true (c .args .surplus) highest-price (fine .1 .0));
+    }
