@@ -23,7 +23,7 @@ use Rattle.rules.specs.declared.records.Account.{Account}
 use Rattle.rules.specs.Records.{account-number}
 use Rattle.rules.specs.Facts.{new-account, grown-by, grown}
 use Rattle.rules.specs.Judgement.{steps-loaded}
-use Rattle.law.specs.History.{same-sort, of-sort}
+use Rattle.law.specs.Law.{same-sort, of-sort}
 use Rattle.law.proofs.Registers.{each-inserted, each-replaced}
 
 -- The sums and counts of an account's record are those of these steps, and no series is longer than a year of n half-hours.

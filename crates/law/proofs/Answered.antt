@@ -33,8 +33,7 @@ use Rattle.rules.specs.Year.{account-in, entity-in, offer-in, is-open, is-blank
 use Rattle.rules.specs.Facts.{Fact, relevelled, ended, did, rebalanced, ended-for}
 use Rattle.rules.specs.Settling.{first-incomplete}
 use Rattle.rules.specs.Judgement.{_else_, in-range, needs, fields, rebalancing, ending, steps-loaded, loading, first-without-room, reporting, ruling, judge}
-use Rattle.law.specs.History.{year, holds, under-offers, Opened, Levelled, Stands}
-use Rattle.law.specs.Law.{Accepted-so}
+use Rattle.law.specs.Law.{year, holds, under-offers, Opened, Levelled, Stands, Accepted-so}
 use Rattle.law.proofs.Says.{Says, In-range, says-if, says-in-range, says-walk, says-unless, says-credited, says-debited, says-levelled}
 use Rattle.law.proofs.Founded.{Founded}
 use Rattle.law.proofs.Settles.{settling, reported}

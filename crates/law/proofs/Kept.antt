@@ -22,8 +22,7 @@ use Rattle.rules.specs.declared.calls.Stage.the-variants.{Blank, Trading, Close
 use Rattle.rules.specs.Records.{account-number, entity-number, offer-number, certified-level, offered-amount}
 use Rattle.rules.specs.Year.{account-in, offer-in, is-open, is-blank, is-trading, is-closed}
 use Rattle.rules.specs.Facts.{Fact}
-use Rattle.law.specs.History.{year, holds, certification, raise, cut, all, under-offers, total, Opened, Levelled, Stands, loads}
-use Rattle.law.specs.Law.{Own-part, Registers-tell}
+use Rattle.law.specs.Law.{year, holds, certification, raise, cut, all, under-offers, total, Opened, Levelled, Stands, loads, Own-part, Registers-tell}
 use Rattle.law.proofs.Totals.{total-le}
 use Rattle.law.proofs.Registers.{Tells}
 use Rattle.law.proofs.Accounts.{Accounts-tell, free-not-open}

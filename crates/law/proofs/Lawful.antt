@@ -21,8 +21,7 @@ use Rattle.rules.specs.declared.faults.RegistryFault.the-variants.{NotEmpty}
 use Rattle.rules.specs.Year.{blank-year, is-blank, is-trading, is-closed, is-settled}
 use Rattle.rules.specs.Facts.{Fact, did}
 use Rattle.rules.specs.Judgement.{Answer, fields, lowest-holder, judge}
-use Rattle.law.specs.History.{Event, Past, year, holds, also, facts, Judged}
-use Rattle.law.specs.Law.{Begun, Accepted-so, Answered-so, Latest, Registers-tell, Law, Lawful}
+use Rattle.law.specs.Law.{Event, Past, year, holds, also, facts, Judged, Begun, Accepted-so, Answered-so, Latest, Registers-tell, Law, Lawful}
 use Rattle.law.proofs.Says.{Says, says-weaker, says-in-range, says-unless}
 use Rattle.law.proofs.Kept.{Kept, registers-tell}
 use Rattle.law.proofs.Steps.{begins, keeps}

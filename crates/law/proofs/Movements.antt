@@ -8,8 +8,7 @@ use Rattle.std.specs.shelf.Lists.{sumBy}
 use Rattle.std.proofs.shelf.Sums.{sumBy-cons}
 use Rattle.rules.specs.declared.records.Offer.{Offer}
 use Rattle.rules.specs.Facts.{Fact, closed, moved, to, returned-to}
-use Rattle.law.specs.History.{Reason, certification, raise, cut, offering, ending, entries, same-reason, all, on, holds}
-use Rattle.law.specs.Law.{Own-part}
+use Rattle.law.specs.Law.{Reason, certification, raise, cut, offering, ending, entries, same-reason, all, on, holds, Own-part}
 use Rattle.law.proofs.Totals.{sumBy-map, sumBy-zero}
 
 -- What a fact moves for a reason, and on the account k.

@@ -28,8 +28,7 @@ use Rattle.rules.specs.Records.{account-number, offered-amount}
 use Rattle.rules.specs.Year.{account-in, is-trading}
 use Rattle.rules.specs.Facts.{Fact}
 use Rattle.rules.specs.Settling.{begun-not-complete, is-incomplete, first-incomplete, obligation-of, gap-of, gaps-of, settlement-of, statement-of}
-use Rattle.law.specs.History.{year, holds, loads, of-sort, loads-of-sort, under-offers, obligation, gap, gaps, open-accounts}
-use Rattle.law.specs.Law.{Settling, Reported, sum-of}
+use Rattle.law.specs.Law.{year, holds, loads, of-sort, loads-of-sort, under-offers, obligation, gap, gaps, open-accounts, Settling, Reported, sum-of}
 use Rattle.law.proofs.Totals.{numbered-total}
 use Rattle.law.proofs.Accounts.{Record-tells}
 use Rattle.law.proofs.Kept.{Kept, not-opened-if}

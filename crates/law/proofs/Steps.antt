@@ -20,7 +20,7 @@ use Rattle.rules.specs.declared.records.Offer.{Offer}
 use Rattle.rules.specs.Records.{entity-number, offer-number, certified-level, offered-amount}
 use Rattle.rules.specs.Year.{is-trading, is-closed}
 use Rattle.rules.specs.Facts.{Fact, began, opened, certified, relevelled, offered, ended, loaded, closed, settled, nothing, at-level, grown-in, to, returned-to}
-use Rattle.law.specs.History.{year, holds, total, Opened, loads as steps-loaded-for}
+use Rattle.law.specs.Law.{year, holds, total, Opened, loads as steps-loaded-for}
 use Rattle.law.proofs.Totals.{total-plus, total-zero, total-to, to-other, risen, lower, fallen}
 use Rattle.law.proofs.Movements.{sums-more, part-more, closed-ending, closed-other, closed-levels}
 use Rattle.law.proofs.Founded.{Opening, Certifying, Relevelling, Offering, Ending, Loading, Founded}

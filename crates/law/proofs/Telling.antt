@@ -11,7 +11,7 @@ use Rattle.rules.specs.Year.{Year, blank-year}
 use Rattle.rules.specs.Facts.{Fact, did, after, moved, posts-of}
 use Rattle.rules.specs.Judgement.{Answer, judge}
 use Rattle.rules.specs.Calls.{Called}
-use Rattle.law.specs.History.{Event, Past, year, holds, facts, also, posts-taken, Shows, Judged}
+use Rattle.law.specs.Law.{Event, Past, year, holds, facts, also, posts-taken, Shows, Judged}
 use Rattle.law.specs.Told.{Told, Lawful-next, event}
 use Rattle.law.proofs.Lawful.{lawful}
 

@@ -13,7 +13,7 @@ use Rattle.std.proofs.shelf.Tests.{cases-eq, cond-true, cond-false, eq-eqb, ne-
 use Rattle.std.proofs.shelf.Ways.{tells}
 use Rattle.registers.specs.Rows.{Above, Within, Rising, Numbered, lookup}
 use Rattle.rules.specs.Facts.{to}
-use Rattle.law.specs.History.{total}
+use Rattle.law.specs.Law.{total}
 
 pub total-plus : (f g h : ℕ → ℕ) (n : ℕ) → ((k : ℕ) → 1 ≤ k → k ≤ n → h k ≡ f k + g k) → total h n ≡ total f n + total g n
 unfolding total

@@ -5,8 +5,7 @@ use Prim.Native.Nat.{ℕ}
 use Rattle.rules.specs.declared.calls.Call.{Call}
 use Rattle.rules.specs.Year.{Year}
 use Rattle.rules.specs.Judgement.{Answer}
-use Rattle.law.specs.History.{Event, Past, year, holds, facts, Shows, Judged}
-use Rattle.law.specs.Law.{Law, Everywhere}
+use Rattle.law.specs.Law.{Event, Past, year, holds, facts, Shows, Judged, Law, Everywhere}
 
 -- The year y, the holdings f and the posts left m are those of the history p, which began at the holdings `start`.
 pub record Told (start : ℕ → ℕ) (p : Past) (y : Year) (f : ℕ → ℕ) (m : ℕ) : Type 0 where

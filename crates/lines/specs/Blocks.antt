@@ -4,7 +4,7 @@ use mathlib.Core.List.{List, [], _∷_, _++_}
 use Prim.Native.Nat.{ℕ}
 use lib.ListN.{take}
 use Rattle.rules.specs.Year.{Year}
-use Rattle.law.specs.History.{Past}
+use Rattle.law.specs.Law.{Past}
 use Rattle.law.specs.Told.{Told}
 use Rattle.frames.specs.Frames.{heard}
 use Rattle.lines.specs.declared.buffer.LineBuffer.{LineBuffer}

@@ -12,7 +12,7 @@ use Rattle.rules.specs.declared.calls.Reply.{Reply}
 use Rattle.rules.specs.Year.{Year}
 use Rattle.rules.specs.Judgement.{Answer, judge}
 use Rattle.rules.specs.Calls.{Called}
-use Rattle.law.specs.History.{Past}
+use Rattle.law.specs.Law.{Past}
 use Rattle.law.specs.Told.{Told, Lawful-next, event}
 use Rattle.frames.specs.declared.fault.LineFault.{LineFault}
 use Rattle.frames.specs.declared.fault.LineFault.the-variants.{NoSpace, Registry}

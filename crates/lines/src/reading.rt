@@ -4,7 +4,7 @@ ghost use mathlib.Core.List.{List};
 ghost use Prim.Native.Nat.{ℕ, _+_, _≤_};
 ghost use lib.ListN.{length, replicate};
 ghost use Rattle.std.specs.Vec.{made};
-ghost use Rattle.law.specs.History.{Past};
+ghost use Rattle.law.specs.Law.{Past};
 ghost use Rattle.law.specs.Told.{Told};
 ghost use Rattle.frames.specs.Frames.{heard};
 ghost use Rattle.registry.specs.Model.{year-in};

@@ -1,7 +1,7 @@
 // The one way in: every call of the book.
 ghost use Prim.Native.Nat.{ℕ};
 ghost use Rattle.rules.specs.Calls.{Called};
-ghost use Rattle.law.specs.History.{Past};
+ghost use Rattle.law.specs.Law.{Past};
 ghost use Rattle.law.specs.Told.{Told, Lawful-next, event};
 ghost use Rattle.registry.specs.Model.{year-in};
 use crate::state::Book;

@@ -12,8 +12,7 @@ use Rattle.rules.specs.declared.calls.Call.the-variants.{Close}
 use Rattle.rules.specs.Year.{Year, blank-year}
 use Rattle.rules.specs.Judgement.{Answer}
 use Rattle.rules.specs.Calls.{Called}
-use Rattle.law.specs.History.{Past}
-use Rattle.law.specs.Law.{Law, Everywhere}
+use Rattle.law.specs.Law.{Past, Law, Everywhere}
 use Rattle.law.specs.Told.{Told, event}
 use Rattle.law.proofs.Telling.{told-at-first, lawful-next}
 use Rattle.law.proofs.Lawful.{lawful}

@@ -7,8 +7,7 @@ use Rattle.rules.specs.declared.calls.Call.{Call}
 use Rattle.rules.specs.declared.calls.Call.the-variants.{Close}
 use Rattle.rules.specs.declared.calls.Reply.the-variants.{Done}
 use Rattle.rules.specs.Year.{Year}
-use Rattle.law.specs.History.{Past}
-use Rattle.law.specs.Law.{Law, Everywhere}
+use Rattle.law.specs.Law.{Past, Law, Everywhere}
 use Rattle.law.specs.Told.{Told, event}
 use Rattle.runs.specs.declared.Outcome.{Outcome}
 

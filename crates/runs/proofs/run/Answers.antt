@@ -7,7 +7,7 @@ use Rattle.std.proofs.shelf.Lists.{getD-default}
 use Rattle.rules.specs.declared.calls.Call.{Call}
 use Rattle.rules.specs.declared.calls.Call.the-variants.{Begin, Close}
 use Rattle.registry.specs.Model.{year-in}
-use Rattle.law.specs.History.{Past}
+use Rattle.law.specs.Law.{Past}
 use Rattle.law.specs.Told.{event}
 use Rattle.runs.specs.declared.Outcome.{Outcome}
 use Rattle.runs.specs.Runs.{history, Ran}
