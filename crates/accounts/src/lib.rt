@@ -1,4 +1,7 @@
 // What the book works out from the records of its accounts: steps, obligations, gaps and the settlement.
+
+#![tactic(auto)]
+
 pub mod loading;
 pub mod settling;
 

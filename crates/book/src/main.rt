@@ -1,4 +1,7 @@
 // Answers each line of standard input by a line on standard output, over the ledger of balances.
+
+#![tactic(auto)]
+
 use curves::Method;
 use ledger::Balances;
 use lines::{LineBuffer, answer_block, read_line};

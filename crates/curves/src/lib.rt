@@ -1,4 +1,7 @@
 // Certified levels and obligations, by the capacity rules of 22 January 2015; articles are cited by their number.
+
+#![tactic(auto)]
+
 mod coefficients;
 mod figures;
 mod levels;

@@ -1,5 +1,8 @@
 // Works out levels, steps and obligations alone, one for each line of a stored table: what an answer line of the book cannot reach.
 // A line is 24 bytes in digits: a kind (1 level, 2 step, 3 obligation), its fields, zeros.
+
+#![tactic(auto)]
+
 use curves::{OutOfRange, Step, added, level, obligation};
 use digits::frame::{Field, Frame};
 use digits::hex::{read_hex, write_hex};

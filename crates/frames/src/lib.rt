@@ -1,4 +1,7 @@
 // Lines and frames: from a line to the call that it writes, and from an answer to its line.
+
+#![tactic(auto)]
+
 pub mod answers;
 pub mod fault;
 pub mod frame;

@@ -1,3 +1,5 @@
+#![tactic(auto)]
+
 ghost use Rattle.std.specs.Prelude.{◌≡◌, ℕ, ◌≤◌};
 ghost use Rattle.ledger.specs.Rules.{limit, most_posts, asking, crediting, debiting, held_after, PostsFall};
 

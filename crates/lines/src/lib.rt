@@ -1,4 +1,7 @@
 // Reading lines: each line is answered by one line.
+
+#![tactic(auto)]
+
 pub mod block;
 pub mod buffer;
 pub mod reading;

@@ -1,4 +1,7 @@
 // The marked figures of the rules.
+
+#![tactic(auto)]
+
 ghost use Rattle.marked.specs.Marked.{Marked};
 
 use curves::marked_figures;

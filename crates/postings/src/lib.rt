@@ -1,4 +1,7 @@
 // What the book asks of its ledger and posts to it. Written once, over any ledger.
+
+#![tactic(auto)]
+
 ghost use Rattle.std.specs.Prelude.{◌≡◌, ℕ, ◌+◌, ◌-◌, ◌≤◌, true, not, length, is_ok, if◌then◌else◌, None, sum_by, ◌==◌, nat_eq, nat_le};
 ghost use Rattle.ledger.specs.Rules.{known, limit};
 ghost use Rattle.rules.specs.Records.{offered_amount};

@@ -1,4 +1,7 @@
 // Registers of numbered records: accounts, entities, offers, or any other kind.
+
+#![tactic(auto)]
+
 ghost use Rattle.std.specs.Prelude.{◌≡◌, ℕ};
 
 mod laws;

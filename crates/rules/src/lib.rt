@@ -1,4 +1,7 @@
 // The words of the book: its records, its calls, their answers and refusals.
+
+#![tactic(auto)]
+
 pub mod calls;
 pub mod faults;
 pub mod records;

@@ -1,4 +1,7 @@
 // A whole run of calls, with what the ledger showed before each and what each was answered.
+
+#![tactic(auto)]
+
 ghost use Rattle.std.specs.Prelude.{◌≡◌, min, length};
 ghost use Rattle.rules.specs.Year.{blank_year};
 ghost use Rattle.registry.specs.Model.{year_in};

@@ -1,4 +1,7 @@
 // The settlement of gaps between holdings and obligations: gaps are entered into a sheet, and paid from it once it is ended (5.6).
+
+#![tactic(auto)]
+
 ghost use Rattle.std.specs.Prelude.{◌≡◌, ℕ, IfOk, Ok};
 ghost use Rattle.std.specs.Result.{result_err};
 ghost use Rattle.settlement.specs.Rules.{total_surplus_of, amounts};

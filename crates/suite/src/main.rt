@@ -1,4 +1,7 @@
 // Answers stored files, each by a new book: over a movement list of P places where the name begins with few-places-P-, else over balances.
+
+#![tactic(auto)]
+
 use curves::Method;
 use ledger::{Balances, Ledger, Movement, Movements, Side};
 use lines::{LineBuffer, answer_block, read_line};

@@ -6,8 +6,8 @@ use Rattle.settlement.proofs.Turns.{ok_is_no_err, same_ok, Turned, paid_in_turn,
 use Rattle.settlement.proofs.pay_all.Goals as goal
 
 -- a gap that was entered is not refused
-pub returns-in-err-gap : goal.returns-in-err-gap
-returns-in-err-gap c =
+pub returns-in_err-gap : goal.returns-in_err-gap
+returns-in_err-gap c =
     let gaps = c.args.gaps.now in
     let i = c.loop-gap.gap-index in
     let within : c.loop-gap.gap-index < length c.args.gaps.now = omega arith in
@@ -16,7 +16,7 @@ returns-in-err-gap c =
     = λ p q pays.
     let inv = c.loop-gap.invariant p q pays in
     let said = simp to_z-of_z at (c.pay.ensures.answer p q gaps (total_surplus_of (drop i gaps)) inv.0) in
-    ok_is_no_err _ _ _ (said ∙ paid_in_turn p q gaps i c.loop-gap.gaps within pays.settles.due.fine inv.1) c.in-err-gap.was in
+    ok_is_no_err _ _ _ (said ∙ paid_in_turn p q gaps i c.loop-gap.gaps within pays.settles.due.fine inv.1) c.in_err-gap.was in
     record { answer = λ p q pays. absurd (never p q pays); after = λ p q pays. absurd (never p q pays) }
 
 pub loop-gap-preserved : goal.loop-gap-preserved
@@ -27,12 +27,12 @@ loop-gap-preserved c p q pays =
     let inv = c.loop-gap.invariant p q pays in
     let within : c.loop-gap.gap-index < length c.args.gaps.now = omega arith in
     let fits : SFits w64 (get_or c.loop-gap.gaps c.loop-gap.gap-index (pos 0)) = search rules in
-    let whole : SFits w64 c.in-ok-gap.field-0 = search rules in
+    let whole : SFits w64 c.in_ok-gap.field-0 = search rules in
     let said = simp to_z-of_z at (c.pay.ensures.answer p q gaps (total_surplus_of (drop i gaps)) inv.0) in
     let held = simp to_z-of_z at (c.pay.ensures.after p q gaps (total_surplus_of (drop i gaps)) inv.0) in
-    let is = same_ok _ _ _ c.in-ok-gap.was (said ∙ paid_in_turn p q gaps i changed within pays.settles.due.fine inv.1) in (
+    let is = same_ok _ _ _ c.in_ok-gap.was (said ∙ paid_in_turn p q gaps i changed within pays.settles.due.fine inv.1) in (
       subst (Pays c.pay.new.self p q gaps) (left_in_turn p q gaps i changed within pays.settles.due.fine inv.1) held,
-      subst (λ (z : ℤ). Turned p q gaps (i + 1) (set changed i z)) (sym (to_z-of_z w64 c.in-ok-gap.field-0 whole ∙ is)) (turned_more p q gaps i changed within inv.1),
+      subst (λ (z : ℤ). Turned p q gaps (i + 1) (set changed i z)) (sym (to_z-of_z w64 c.in_ok-gap.field-0 whole ∙ is)) (turned_more p q gaps i changed within inv.1),
     )
 
 pub returns : goal.returns

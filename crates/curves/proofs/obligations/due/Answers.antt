@@ -10,8 +10,8 @@ small c =
     let power = reference_most c.args.n (to_z w64 (of_z w64 c.args.sum)) (10 ^ 14) (omega (arith, ints)) in
     mul-le c.reference_power.result c.from.result (10 ^ 14) 65535 (omega (arith, power)) (omega arith)
 
-pub overflow-mul-reference-power : goal.overflow-mul-reference-power
-overflow-mul-reference-power c = record { fits = omega (arith, small c) }
+pub overflow_mul-reference_power : goal.overflow_mul-reference_power
+overflow_mul-reference_power c = record { fits = omega (arith, small c) }
 
 pub rounded-requires : goal.rounded-requires
 rounded-requires c = omega (arith, small c)

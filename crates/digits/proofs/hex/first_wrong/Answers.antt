@@ -6,4 +6,4 @@ pub loop-i-init : goal.loop-i-init
 loop-i-init c = clean_none c.args.line.now
 
 pub loop-i-preserved : goal.loop-i-preserved
-loop-i-preserved c = clean_more c.args.line.now c.loop-i.i c.loop-i-test.true (sym c.if-not-is-digit.ensures) c.loop-i.invariant
+loop-i-preserved c = clean_more c.args.line.now c.loop-i.i c.loop-i-test.true (sym c.if-not-is_digit.ensures) c.loop-i.invariant

@@ -8,6 +8,6 @@ returns c =
     let start = c.min-start.result in
     let count = c.min.result in
     record {
-      answer = c.number-of.ensures.answer ∙ ap (number_from_digits 256) (part_is c.args.frame.now c.args.at c.args.width start count c.min-start.ensures c.min.ensures);
-      bound = under_power c.number-of.result ((start + count) - start) c.args.width (drop start c.args.frame.now) c.number-of.ensures.bound (omega arith);
+      answer = c.number_of.ensures.answer ∙ ap (number_from_digits 256) (part_is c.args.frame.now c.args.at c.args.width start count c.min-start.ensures c.min.ensures);
+      bound = under_power c.number_of.result ((start + count) - start) c.args.width (drop start c.args.frame.now) c.number_of.ensures.bound (omega arith);
     }

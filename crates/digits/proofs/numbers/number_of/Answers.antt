@@ -4,11 +4,11 @@ use Rattle.std.proofs.lemmas.List.{take_all}
 use Rattle.digits.proofs.Bytes.{power_more, one_more_fits}
 use Rattle.digits.proofs.numbers.number_of.Goals as goal
 
-pub overflow-mul-value : goal.overflow-mul-value
-overflow-mul-value c = omega (arith, one_more_fits c.loop-byte.byte-index c.loop-byte.value c.loop-byte.invariant.1 (omega arith))
+pub overflow_mul-value : goal.overflow_mul-value
+overflow_mul-value c = omega (arith, one_more_fits c.loop-byte.byte-index c.loop-byte.value c.loop-byte.invariant.1 (omega arith))
 
-pub overflow-add-value : goal.overflow-add-value
-overflow-add-value c = omega (arith, one_more_fits c.loop-byte.byte-index c.loop-byte.value c.loop-byte.invariant.1 (omega arith))
+pub overflow_add-value : goal.overflow_add-value
+overflow_add-value c = omega (arith, one_more_fits c.loop-byte.byte-index c.loop-byte.value c.loop-byte.invariant.1 (omega arith))
 
 pub loop-byte-preserved : goal.loop-byte-preserved
 loop-byte-preserved c = (

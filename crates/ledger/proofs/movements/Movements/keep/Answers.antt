@@ -7,8 +7,8 @@ use Rattle.ledger.specs.Holdings.{moving, moved, Sound}
 use Rattle.ledger.proofs.Moves.{capped_push, sound_push}
 use Rattle.ledger.proofs.movements.Movements.keep.Goals as goal
 
-pub invariant-of-self : goal.invariant-of-self
-invariant-of-self c =
+pub invariant_of-self : goal.invariant_of-self
+invariant_of-self c =
     let s = c.args.self.now in
     let lt : s.used < length s.places.now = omega (arith, c.requires.free) in
     let kept = sym (take_more_set s.places.now s.used c.args.movement lt) in (

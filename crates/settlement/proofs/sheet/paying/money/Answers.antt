@@ -4,8 +4,8 @@ use Rattle.std.proofs.lemmas.Int.{ints}
 use Rattle.settlement.specs.Rules.{widest_shortage, highest_price}
 use Rattle.settlement.proofs.sheet.paying.money.Goals as goal
 
-pub overflow-cast-result : goal.overflow-cast-result
-overflow-cast-result c = omega (arith, ints, mul-le c.args.guarantees c.from.result widest_shortage highest_price (omega arith) (omega arith))
+pub overflow_cast-result : goal.overflow_cast-result
+overflow_cast-result c = omega (arith, ints, mul-le c.args.guarantees c.from.result widest_shortage highest_price (omega arith) (omega arith))
 
 pub returns : goal.returns
 returns c =

@@ -4,8 +4,8 @@ use Rattle.settlement.specs.Rules.{shortage, surplus}
 use Rattle.settlement.proofs.Tallying.{fine_shortage, fine_surplus, tallied_push, tally_push}
 use Rattle.settlement.proofs.totals.Totals.add.Goals as goal
 
-pub invariant-of-self : goal.invariant-of-self
-invariant-of-self c =
+pub invariant_of-self : goal.invariant_of-self
+invariant_of-self c =
     let s = c.args.self.now in
     let back = to_z-of_z w64 c.args.gap c.ranges.gap in
     let lacks : c.shortage.result ≡ shortage c.args.gap = cc in

@@ -1,5 +1,5 @@
 use Rattle.std.proofs.Common.{[], rules}
 use Rattle.settlement.proofs.totals.Totals.none.Goals as goal
 
-pub invariant-of-result : goal.invariant-of-result
-invariant-of-result c = (∣ ([], search rules) ∣₁, (search rules, tt))
+pub invariant_of-result : goal.invariant_of-result
+invariant_of-result c = (∣ ([], search rules) ∣₁, (search rules, tt))
