@@ -11,16 +11,11 @@ pub invariant_of-self : goal.invariant_of-self
 invariant_of-self c =
     let s = c.args.self.now in
     let lt : s.used < length s.places.now = omega (arith, c.requires.free) in
-    let kept = sym (take_more_set s.places.now s.used c.args.movement lt) in (
-      simp length-set (omega (arith, c.requires.free)),
-      (
-        subst (λ (ms : List Movement). (k : ℕ) → moved ms k ≤ limit) kept (capped_push (take s.used s.places.now) c.args.movement s.capped c.requires.covered),
-        (
-          subst Sound kept (sound_push (take s.used s.places.now) c.args.movement s.sound c.requires.covered),
-          tt,
-        ),
-      ),
-    )
+    let kept = sym (take_more_set s.places.now s.used c.args.movement lt) in record {
+      fits = simp length-set (omega (arith, c.requires.free));
+      capped = subst (λ (ms : List Movement). (k : ℕ) → moved ms k ≤ limit) kept (capped_push (take s.used s.places.now) c.args.movement s.capped c.requires.covered);
+      sound = subst Sound kept (sound_push (take s.used s.places.now) c.args.movement s.sound c.requires.covered);
+    }
 
 pub returns : goal.returns
 returns c =
