@@ -4,37 +4,37 @@ ghost use Rattle.registers.specs.Laws.{FindsExactlyItsRecords, GainsExactlyTheNe
 use crate::Keyed;
 
 pub fn finds_exactly_its_records<R: Keyed>()
-    ensures { FindsExactlyItsRecords key }
+    ensures { FindsExactlyItsRecords R.key }
 {}
 
 pub fn gains_exactly_the_new_record<R: Keyed>()
-    ensures { GainsExactlyTheNewRecord key }
+    ensures { GainsExactlyTheNewRecord R.key }
 {}
 
 pub fn loses_exactly_the_removed_record<R: Keyed>()
-    ensures { LosesExactlyTheRemovedRecord key }
+    ensures { LosesExactlyTheRemovedRecord R.key }
 {}
 
 pub fn exchanges_exactly_the_replaced_record<R: Keyed>()
-    ensures { ExchangesExactlyTheReplacedRecord key }
+    ensures { ExchangesExactlyTheReplacedRecord R.key }
 {}
 
 pub fn changes_one_number_only<R: Keyed>()
-    ensures { ChangesOneNumberOnly key }
+    ensures { ChangesOneNumberOnly R.key }
 {}
 
 pub fn adds_up_after_each_change<R: Keyed>()
-    ensures { AddsUpAfterEachChange key }
+    ensures { AddsUpAfterEachChange R.key }
 {}
 
 pub fn has_one_order_only<R: Keyed>()
-    ensures { HasOneOrderOnly key }
+    ensures { HasOneOrderOnly R.key }
 {}
 
 pub fn has_a_place_for_each_number<R: Keyed>()
-    ensures { HasAPlaceForEachNumber key }
+    ensures { HasAPlaceForEachNumber R.key }
 {}
 
 pub fn uses_a_freed_place_again<R: Keyed>()
-    ensures { UsesAFreedPlaceAgain key }
+    ensures { UsesAFreedPlaceAgain R.key }
 {}

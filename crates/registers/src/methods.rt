@@ -35,7 +35,7 @@ impl<'a, R: Keyed> Register<'a, R> {
 
     // The record with the number.
     pub fn find(&self, number: u16) -> Option<R>
-        ensures { result ≡ lookup key number (rows self.now) }
+        ensures { result ≡ lookup R.key number (rows self.now) }
     {
         match self.seek(number) {
             Ok(at) => Some(self.records()[at]),
@@ -45,8 +45,8 @@ impl<'a, R: Keyed> Register<'a, R> {
 
     // Puts the record in its place, unless its number is in use or no place is free.
     pub fn insert(&mut self, record: R) -> Result<(), RegisterFault>
-        ensures answer { result ≡ entering key «record» (room self.old) (rows self.old) }
-        ensures after { rows self.new ≡ (if is_ok result then inserted key «record» (rows self.old) else rows self.old) }
+        ensures answer { result ≡ entering R.key «record» (room self.old) (rows self.old) }
+        ensures after { rows self.new ≡ (if is_ok result then inserted R.key «record» (rows self.old) else rows self.old) }
         ensures unchanged { room self.new ≡ room self.old }
         ensures lent { self.new.places.ghost_name ≡ self.old.places.ghost_name }
     {
@@ -66,8 +66,8 @@ impl<'a, R: Keyed> Register<'a, R> {
 
     // Takes the record with the number out, so that its place serves again.
     pub fn remove(&mut self, number: u16) -> Option<R>
-        ensures answer { result ≡ lookup key number (rows self.old) }
-        ensures after { rows self.new ≡ without key number (rows self.old) }
+        ensures answer { result ≡ lookup R.key number (rows self.old) }
+        ensures after { rows self.new ≡ without R.key number (rows self.old) }
         ensures unchanged { room self.new ≡ room self.old }
         ensures lent { self.new.places.ghost_name ≡ self.old.places.ghost_name }
     {
@@ -85,8 +85,8 @@ impl<'a, R: Keyed> Register<'a, R> {
 
     // Puts the record in the place of the one with its number, which it hands back.
     pub fn replace(&mut self, record: R) -> Option<R>
-        ensures answer { result ≡ lookup key (key «record») (rows self.old) }
-        ensures after { rows self.new ≡ replaced key «record» (rows self.old) }
+        ensures answer { result ≡ lookup R.key (R.key «record») (rows self.old) }
+        ensures after { rows self.new ≡ replaced R.key «record» (rows self.old) }
         ensures unchanged { room self.new ≡ room self.old }
         ensures lent { self.new.places.ghost_name ≡ self.old.places.ghost_name }
     {
@@ -111,7 +111,7 @@ impl<'a, R: Keyed> Register<'a, R> {
 
     // The place of the record with the number, or the one that it would take.
     fn seek(&self, number: u16) -> Result<usize, usize>
-        ensures answer { MatchResult result (λ i. Stands key number i (rows self.now)) (λ i. Enters key number i (rows self.now)) }
+        ensures answer { MatchResult result (λ i. Stands R.key number i (rows self.now)) (λ i. Enters R.key number i (rows self.now)) }
         ensures bound { MatchResult result (λ i. i < room self.now) (λ i. i ≤ room self.now) }
     {
         let records = self.records();

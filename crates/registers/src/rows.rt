@@ -19,7 +19,7 @@ pub fn front<R>(places: &[R], used: usize) -> &[R]
 
 // How many records at the front have a number below `number`.
 pub fn place<R: Keyed>(records: &[R], number: u16) -> usize
-    ensures { result ≡ rank key number records.now }
+    ensures { result ≡ rank R.key number records.now }
 {
     for (i, x) in records.iter().enumerate() {
         if x.number() >= number {

@@ -5,7 +5,7 @@ use crate::Amount;
 
 // The sum of the amounts. 128 bits hold 2^64 amounts of 32 bits.
 pub fn total<R: Amount>(records: &[R]) -> u128
-    ensures { result ≡ sum_by worth records.now }
+    ensures { result ≡ sum_by R.worth records.now }
 {
     let mut sum: u128 = 0;
     for x in records {

@@ -18,7 +18,8 @@ invariant_of-result c =
     let within : c.price_within-paid_price.result ≤ highest_price
     = omega (arith, price_within_quote (t.shortage * c.from.result) t.surplus q) in
     let covered : t.surplus * c.price_within-paid_price.result ≤ t.shortage * c.from.result
-    = rw c.price_within-paid_price.ensures (price_within_money (t.shortage * c.from.result) t.surplus q) in (
-      simp (c.price_within-paid_price.ensures, c.from.ensures) (ended_at_end p q t.shortage t.surplus t.count t.stands),
-      ((omega arith, within, omega arith, covered, omega arith), tt),
-    )
+    = rw c.price_within-paid_price.ensures (price_within_money (t.shortage * c.from.result) t.surplus q) in
+    record {
+      stands = simp (c.price_within-paid_price.ensures, c.from.ensures) (ended_at_end p q t.shortage t.surplus t.count t.stands);
+      bound = (omega arith, within, omega arith, covered, omega arith);
+    }

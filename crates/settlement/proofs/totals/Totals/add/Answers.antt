@@ -9,10 +9,11 @@ invariant_of-self c =
     let s = c.args.self.now in
     let back = to_z-of_z w64 c.args.gap c.ranges.gap in
     let lacks : c.shortage.result ≡ shortage c.args.gap = cc in
-    let has : c.surplus.result ≡ surplus c.args.gap = cc in (
-      simp (lacks, has) (tallied_push s.shortage s.surplus s.count c.args.gap c.requires.0 s.stands),
-      (search (arith, fine_shortage c.args.gap c.requires.0, fine_surplus c.args.gap c.requires.0), tt),
-    )
+    let has : c.surplus.result ≡ surplus c.args.gap = cc in
+    record {
+      stands = simp (lacks, has) (tallied_push s.shortage s.surplus s.count c.args.gap c.requires.0 s.stands);
+      bound = search (arith, fine_shortage c.args.gap c.requires.0, fine_surplus c.args.gap c.requires.0);
+    }
 
 pub returns : goal.returns
 returns c =
