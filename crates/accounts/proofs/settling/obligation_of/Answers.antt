@@ -18,8 +18,8 @@ answer c =
 bound : (c : goal.After-unwrap) → c.unwrap.result ≤ widest_shortage
 bound c = omega (arith, answer c, ap (obligation_in_guarantees c.args.terms.n c.args.terms.security) c.both-sum.ensures.answer, obligation_most c.args.terms.n c.args.terms.security c.both-sum.result c.requires.terms.2 c.both-sum.ensures.bound)
 
-pub overflow-cast-result : goal.overflow-cast-result
-overflow-cast-result c = record { fits = omega (arith, bound c) }
+pub overflow_cast-result : goal.overflow_cast-result
+overflow_cast-result c = record { fits = omega (arith, bound c) }
 
 pub returns : goal.returns
 returns c = record { answer = answer c; bound = bound c }

@@ -9,8 +9,8 @@ use Rattle.accounts.proofs.Sounds.{sound_at, at_most_64}
 use Rattle.accounts.proofs.Gaps.{next_gap_counts, next_gap_entered}
 use Rattle.accounts.proofs.settling.paying_sheet.Goals as goal
 
-pub gap-of-requires : goal.gap-of-requires
-gap-of-requires g c = record { sound = sound_at c.args.terms.n c.args.accounts.now c.loop-account.account-index _ c.requires.kept c.loop-account-test.true; terms = c.requires.terms }
+pub gap_of-requires : goal.gap_of-requires
+gap_of-requires g c = record { sound = sound_at c.args.terms.n c.args.accounts.now c.loop-account.account-index _ c.requires.kept c.loop-account-test.true; terms = c.requires.terms }
 
 pub unwrap-requires : goal.unwrap-requires
 unwrap-requires g c =
@@ -19,19 +19,19 @@ unwrap-requires g c =
     let i = c.loop-account.account-index in
     let p = c.args.prices.shortage in
     let q = c.args.prices.surplus in
-    let fits : SFits w64 c.gap-of.result = search rules in
+    let fits : SFits w64 c.gap_of.result = search rules in
     let start : Holds c.unwrap-sheet.result p q [] = IfOk-at_ok _ c.unwrap-sheet.ensures c.start.ensures.after in
     let said = simp to_z-of_z at (c.enter.ensures.answer p q (gaps_of c.args.terms.n c.args.terms.security f (take i accounts)) (c.loop-account.invariant p q start)) in
-    ap is_ok (said ∙ next_gap_counts c.args.terms.n c.args.terms.security f accounts i c.gap-of.result c.loop-account-test.true (at_most_64 c.args.terms.n accounts c.requires.kept) c.gap-of.ensures.bound)
+    ap is_ok (said ∙ next_gap_counts c.args.terms.n c.args.terms.security f accounts i c.gap_of.result c.loop-account-test.true (at_most_64 c.args.terms.n accounts c.requires.kept) c.gap_of.ensures.bound)
 
 pub loop-account-preserved : goal.loop-account-preserved
 loop-account-preserved g c p q start =
     let f = g.L.Ledger.holding c.args.ledger.now in
     let accounts = c.args.accounts.now in
     let i = c.loop-account.account-index in
-    let fits : SFits w64 c.gap-of.result = search rules in
+    let fits : SFits w64 c.gap_of.result = search rules in
     let held = simp to_z-of_z at (c.enter.ensures.after p q (gaps_of c.args.terms.n c.args.terms.security f (take i accounts)) (c.loop-account.invariant p q start)) in
-    subst (Holds c.enter.new.self p q) (next_gap_entered c.args.terms.n c.args.terms.security f accounts i _ c.gap-of.result c.loop-account-test.true (at_most_64 c.args.terms.n accounts c.requires.kept) c.gap-of.ensures.bound c.gap-of.ensures.answer) held
+    subst (Holds c.enter.new.self p q) (next_gap_entered c.args.terms.n c.args.terms.security f accounts i _ c.gap_of.result c.loop-account-test.true (at_most_64 c.args.terms.n accounts c.requires.kept) c.gap_of.ensures.bound c.gap_of.ensures.answer) held
 
 pub returns : goal.returns
 returns g c =

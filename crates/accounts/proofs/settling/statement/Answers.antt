@@ -11,20 +11,20 @@ use Rattle.accounts.proofs.settling.statement.Given as given
 use Rattle.accounts.proofs.settling.statement.Goals as goal
 use Rattle.accounts.proofs.settling.statement.Goals.{AfterPay}
 
-pub holding-of-holding-requires : goal.holding-of-holding-requires
-holding-of-holding-requires g c =
+pub holding_of-holding-requires : goal.holding_of-holding-requires
+holding_of-holding-requires g c =
     let sound = sound_found c.args.terms.n c.args.accounts.now c.args.account c.requires.kept c.requires.found in
     (sound.0, sound.1)
 
-pub obligation-of-obligation-requires : goal.obligation-of-obligation-requires
-obligation-of-obligation-requires g c =
+pub obligation_of-obligation-requires : goal.obligation_of-obligation-requires
+obligation_of-obligation-requires g c =
     record { sound = sound_found c.args.terms.n c.args.accounts.now c.args.account c.requires.kept c.requires.found; terms = c.requires.terms }
 
 is_gap : (g : given.Over) (c : AfterPay g) → c.gap-gap.result ≡ gap_of c.args.terms.n c.args.terms.security (g.L.Ledger.holding c.args.ledger.now) c.args.account
 is_gap g c =
     gap_from c.args.terms.n c.args.terms.security (g.L.Ledger.holding c.args.ledger.now) c.args.account
-    c.holding-of-holding.result c.obligation-of-obligation.result c.gap-gap.result
-    c.holding-of-holding.ensures.answer c.obligation-of-obligation.ensures.answer c.gap-gap.ensures.answer
+    c.holding_of-holding.result c.obligation_of-obligation.result c.gap-gap.result
+    c.holding_of-holding.ensures.answer c.obligation_of-obligation.ensures.answer c.gap-gap.ensures.answer
 
 is_paid : (g : given.Over) (c : AfterPay g) → c.pay.result ≡ Ok (statement_of c.args.terms.n c.args.terms.security c.args.prices.shortage c.args.prices.surplus (g.L.Ledger.holding c.args.ledger.now) c.args.accounts.now c.args.account).amount
 is_paid g c =
@@ -35,10 +35,10 @@ is_paid g c =
     let f = g.L.Ledger.holding c.args.ledger.now in
     let gaps = gaps_of n security f c.args.accounts.now in
     let fits : SFits w64 c.gap-gap.result = search rules in
-    let said = simp to_z-of_z at (c.pay.ensures.answer p q gaps (total_surplus_of gaps) c.paying-sheet-paying.ensures) in
+    let said = simp to_z-of_z at (c.pay.ensures.answer p q gaps (total_surplus_of gaps) c.paying_sheet-paying.ensures) in
     said
     ∙ ap (paying p q gaps (total_surplus_of gaps)) (is_gap g c)
-    ∙ entered_gap_paid p q gaps c.paying-sheet-paying.ensures.settles.due.fine (gap_of n security f c.args.account) (gap_among n security f c.args.accounts.now c.args.account c.requires.found)
+    ∙ entered_gap_paid p q gaps c.paying_sheet-paying.ensures.settles.due.fine (gap_of n security f c.args.account) (gap_among n security f c.args.accounts.now c.args.account c.requires.found)
 
 pub unwrap-amount-requires : goal.unwrap-amount-requires
 unwrap-amount-requires g c = ap is_ok (is_paid g c)
@@ -49,4 +49,4 @@ returns g c =
     let gap = is_gap g (goal.at.returns g c).AfterPay in
     let narrow : to_z w32 (of_z w32 (to_z w64 (of_z w64 c.gap-gap.result))) ≡ c.gap-gap.result = omega (arith, ints) in
     let whole : to_z w64 (of_z w64 c.unwrap-amount.result) ≡ c.unwrap-amount.result = omega (arith, ints) in
-    same_statement _ _ _ _ _ c.holding-of-holding.ensures.answer c.obligation-of-obligation.ensures.answer (narrow ∙ gap) (whole ∙ same_ok c.pay.result _ _ c.unwrap-amount.ensures paid)
+    same_statement _ _ _ _ _ c.holding_of-holding.ensures.answer c.obligation_of-obligation.ensures.answer (narrow ∙ gap) (whole ∙ same_ok c.pay.result _ _ c.unwrap-amount.ensures paid)
