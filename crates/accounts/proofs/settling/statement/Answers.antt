@@ -9,7 +9,7 @@ use Rattle.accounts.proofs.Sounds.{sound_found}
 use Rattle.accounts.proofs.Gaps.{gap_from, gap_among, same_statement}
 use Rattle.accounts.proofs.settling.statement.Given as given
 use Rattle.accounts.proofs.settling.statement.Goals as goal
-use Rattle.accounts.proofs.settling.statement.Goals.{AfterPay}
+use Rattle.accounts.proofs.settling.statement.Goals.{After-pay}
 
 pub holding_of-holding-requires : goal.holding_of-holding-requires
 holding_of-holding-requires g c =
@@ -20,13 +20,13 @@ pub obligation_of-obligation-requires : goal.obligation_of-obligation-requires
 obligation_of-obligation-requires g c =
     record { sound = sound_found c.args.terms.n c.args.accounts.now c.args.account c.requires.kept c.requires.found; terms = c.requires.terms }
 
-is_gap : (g : given.Over) (c : AfterPay g) → c.gap-gap.result ≡ gap_of c.args.terms.n c.args.terms.security (g.L.Ledger.holding c.args.ledger.now) c.args.account
+is_gap : (g : given.Over) (c : After-pay g) → c.gap-gap.result ≡ gap_of c.args.terms.n c.args.terms.security (g.L.Ledger.holding c.args.ledger.now) c.args.account
 is_gap g c =
     gap_from c.args.terms.n c.args.terms.security (g.L.Ledger.holding c.args.ledger.now) c.args.account
     c.holding_of-holding.result c.obligation_of-obligation.result c.gap-gap.result
     c.holding_of-holding.ensures.answer c.obligation_of-obligation.ensures.answer c.gap-gap.ensures.answer
 
-is_paid : (g : given.Over) (c : AfterPay g) → c.pay.result ≡ Ok (statement_of c.args.terms.n c.args.terms.security c.args.prices.shortage c.args.prices.surplus (g.L.Ledger.holding c.args.ledger.now) c.args.accounts.now c.args.account).amount
+is_paid : (g : given.Over) (c : After-pay g) → c.pay.result ≡ Ok (statement_of c.args.terms.n c.args.terms.security c.args.prices.shortage c.args.prices.surplus (g.L.Ledger.holding c.args.ledger.now) c.args.accounts.now c.args.account).amount
 is_paid g c =
     let n = c.args.terms.n in
     let security = c.args.terms.security in
@@ -45,8 +45,8 @@ unwrap-amount-requires g c = ap is_ok (is_paid g c)
 
 pub returns : goal.returns
 returns g c =
-    let paid = is_paid g (goal.at.returns g c).AfterPay in
-    let gap = is_gap g (goal.at.returns g c).AfterPay in
+    let paid = is_paid g (goal.at.returns g c).After-pay in
+    let gap = is_gap g (goal.at.returns g c).After-pay in
     let narrow : to_z w32 (of_z w32 (to_z w64 (of_z w64 c.gap-gap.result))) ≡ c.gap-gap.result = omega (arith, ints) in
     let whole : to_z w64 (of_z w64 c.unwrap-amount.result) ≡ c.unwrap-amount.result = omega (arith, ints) in
     same_statement _ _ _ _ _ c.holding_of-holding.ensures.answer c.obligation_of-obligation.ensures.answer (narrow ∙ gap) (whole ∙ same_ok c.pay.result _ _ c.unwrap-amount.ensures paid)
