@@ -9,7 +9,7 @@ returns c =
     let bytes = c.bytes-bytes.result.now in
     let same = c.bytes-bytes.ensures.answer in
     record {
-      after = line_put c.args.answers.now bytes _ c.write-hex.new.out c.args.at c.write-hex.result (omega (arith, c.bytes-bytes.ensures.bound)) (simp (length-take, length-drop) (omega (arith, c.bytes-bytes.ensures.bound))) c.write-hex.ensures.answer c.write-hex.ensures.after ∙ ap (λ (b : List ℕ). over c.args.answers.now c.args.at (line_of b)) same;
+      after = line_put c.args.answers.now bytes _ c.write_hex.new.out c.args.at c.write_hex.result (omega (arith, c.bytes-bytes.ensures.bound)) (simp (length-take, length-drop) (omega (arith, c.bytes-bytes.ensures.bound))) c.write_hex.ensures.answer c.write_hex.ensures.after ∙ ap (λ (b : List ℕ). over c.args.answers.now c.args.at (line_of b)) same;
       answer = line_length bytes ∙ ap (λ (b : List ℕ). length (line_of b)) same;
       bound = omega (arith, c.bytes-bytes.ensures.bound);
     }

@@ -5,6 +5,6 @@ use Rattle.registry.proofs.state.Book.call.Goals as goal
 pub returns : goal.returns
 returns g c =
     record {
-      called = c.in-stage.ensures;
-      law = λ start p told. lawful_next start p c.args.call c.in-stage.result (year_in c.args.self.now) (year_in c.in-stage.new.self) _ _ _ _ c.in-stage.ensures told;
+      called = c.in_stage.ensures;
+      law = λ start p told. lawful_next start p c.args.call c.in_stage.result (year_in c.args.self.now) (year_in c.in_stage.new.self) _ _ _ _ c.in_stage.ensures told;
     }

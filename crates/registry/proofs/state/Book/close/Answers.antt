@@ -8,21 +8,21 @@ use Rattle.rules.specs.declared.calls.Stage.{Stage}
 use Rattle.registry.specs.State.{terms_kept}
 use Rattle.registry.proofs.state.Book.close.Goals as goal
 
-pub first-without-room-requires : goal.first-without-room-requires
-first-without-room-requires g c = subst (λ (os : List Offer). ∥ Real os ∥₁) (sym c.records.ensures.answer) c.args.self.now.real
+pub first_without_room-requires : goal.first_without_room-requires
+first_without_room-requires g c = subst (λ (os : List Offer). ∥ Real os ∥₁) (sym c.records.ensures.answer) c.args.self.now.real
 
-pub give-back-requires : goal.give-back-requires
-give-back-requires g c =
+pub give_back-requires : goal.give_back-requires
+give_back-requires g c =
     let same = c.records-2.ensures.answer in
     let enough : length (rows c.args.self.now.offers) ≤ g.L.Ledger.posts c.args.ledger.now = omega (arith, c.len-count.ensures.answer, c.left.ensures, c.from.ensures) in
     record {
       real = subst (λ (os : List Offer). ∥ Real os ∥₁) (sym same) c.args.self.now.real;
       posts = subst (λ (os : List Offer). length os ≤ g.L.Ledger.posts c.args.ledger.now) (sym same) enough;
-      room = subst (λ (os : List Offer). first_without_room (g.L.Ledger.holding c.args.ledger.now) (sum_by offered_amount os) os ≡ None) (c.records.ensures.answer ∙ sym same) (sym c.in-default.ensures);
+      room = subst (λ (os : List Offer). first_without_room (g.L.Ledger.holding c.args.ledger.now) (sum_by offered_amount os) os ≡ None) (c.records.ensures.answer ∙ sym same) (sym c.in_default.ensures);
     }
 
-pub invariant-of-self : goal.invariant-of-self
-invariant-of-self g c =
+pub invariant_of-self : goal.invariant_of-self
+invariant_of-self g c =
     let s = c.args.self.now in
     let e = c.clear.ensures in
     ((s.rooms.0, s.rooms.1, e.unchanged ∙ s.rooms.2), (ap (λ (t : Stage). terms_kept t s.n s.security) (sym c.requires) ∙ s.terms, (s.prices, (s.kept, (∣ subst Real (sym e.after) tt ∣₁, tt)))))

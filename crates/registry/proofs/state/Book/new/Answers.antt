@@ -3,8 +3,8 @@ use Rattle.postings.specs.Offers.{Real}
 use Rattle.accounts.specs.Bounds.{Kept}
 use Rattle.registry.proofs.state.Book.new.Goals as goal
 
-pub invariant-of-result : goal.invariant-of-result
-invariant-of-result c =
+pub invariant_of-result : goal.invariant_of-result
+invariant_of-result c =
     let a = c.new-accounts.ensures in
     let e = c.new-entities.ensures in
     let o = c.new-offers.ensures in

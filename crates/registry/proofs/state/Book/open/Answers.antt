@@ -17,18 +17,18 @@ use Rattle.registry.proofs.Calling.{refused, judged_by_ruling, open_ruled}
 use Rattle.registry.proofs.Keeping.{kept_opened, refused_in_use}
 use Rattle.registry.proofs.state.Book.open.Goals as goal
 
-pub invariant-of-self : goal.invariant-of-self
-invariant-of-self c =
+pub invariant_of-self : goal.invariant_of-self
+invariant_of-self c =
     let s = c.args.self.now in
     let e = c.insert.ensures in
-    let is_Known = (fine_if_accepted 1 (known c.args.account ∷ []) tt tt (sym c.in-ok-account-in-range.ensures)).0 in
+    let is_Known = (fine_if_accepted 1 (known c.args.account ∷ []) tt tt (sym c.in_ok-account_in_range.ensures)).0 in
     ((e.unchanged ∙ s.rooms.0, s.rooms.1, s.rooms.2), (s.terms, (s.prices, (∥∥₁_map s.kept (kept_opened s.n c.args.account (room s.accounts) c.new_account.result (rows s.accounts) _ c.insert.result c.new_account.ensures is_Known e.answer e.after), (s.real, tt)))))
 
 pub returns-in-Err : goal.returns-in-Err
 returns-in-Err c f m =
     let s = c.args.self.now in
     let e = c.in-Err.ensures in
-    let in_range = sym c.in-ok-account-in-range.ensures in
+    let in_range = sym c.in_ok-account_in_range.ensures in
     let is_Known = (fine_if_accepted 1 (known c.args.account ∷ []) tt tt in_range).0 in
     let opened : is_some (lookup account_number c.args.account (rows c.args.self.now.accounts)) ≡ true
     = ∥∥₁_elim s.kept (Bool-set _ _) (λ kept. refused_in_use c.args.account c.new_account.result (room s.accounts) (rows s.accounts) c.in-Err.field-0 c.new_account.ensures is_Known s.rooms.0 kept.0 e.answer) in

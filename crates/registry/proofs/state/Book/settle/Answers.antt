@@ -11,7 +11,7 @@ use Rattle.registry.proofs.state.Book.settle.Goals as goal
 pub settlement-figures-requires : goal.settlement-figures-requires
 settlement-figures-requires g c =
     let s = c.args.self.now in
-    let fine = fine_if_accepted 1 (price_fine c.args.shortage ∷ price_fine c.args.surplus ∷ []) tt tt (sym c.in-ok-prices-in-range.ensures) in
+    let fine = fine_if_accepted 1 (price_fine c.args.shortage ∷ price_fine c.args.surplus ∷ []) tt tt (sym c.in_ok-prices_in_range.ensures) in
     record {
       kept = subst (λ (xs : List Account). ∥ Kept s.n xs ∥₁) (sym c.records-2.ensures.answer) s.kept;
       terms = terms_closed s.stage s.n s.security c.requires s.terms;
