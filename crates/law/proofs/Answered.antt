@@ -52,20 +52,20 @@ range_known a low high = and_from (leb 1 a) (leb a 64) (le-leb 1 a low) (le-leb 
 
 module _ (start : ℕ → ℕ) (fs : List Fact) (kept : Kept start fs) where
   opens : (m a : ℕ) → known a ≡ true → Ruled start fs m (Open a)
-  opens m a is_Known =
-      let range = known_range a is_Known in
+  opens m a is_known =
+      let range = known_range a is_known in
       says_walk (Said start fs (Open a)) (not (is_open (year fs) a) else InUse 1 ∷ []) (Ok Done) (tt, tt)
       (λ passed. (record { low = range.0; high = range.1; free = none_found (account_in (year fs) a) (not-true (is_open (year fs) a) passed.0) }, tt))
 
   certifies : (m i a method power hours days : ℕ) → known a ≡ true → power ≤ 99999999 → Ruled start fs m (Certify i a method power hours days)
-  certifies m i a method power hours days is_Known high =
-      let range = known_range a is_Known in
+  certifies m i a method power hours days is_known high =
+      let range = known_range a is_known in
       let level = guarantees (method_at method) power hours days in
       let most = guarantees_most (method_at method) power hours days high in
       says_walk _ (is_open (year fs) a else NotOpen 2 ∷ not (is_some (entity_in (year fs) i)) else InUse 1 ∷ ltb (length (year fs).entities) 64 else RegisterFull ∷ []) _
       (tt, (tt, (tt, tt)))
       (λ passed.
-      says_levelled (Said start fs (Certify i a method power hours days)) (holds start fs) m a 0 level is_Known (omega (arith, held_most start fs kept a range.0 range.1))
+      says_levelled (Said start fs (Certify i a method power hours days)) (holds start fs) m a 0 level is_known (omega (arith, held_most start fs kept a range.0 range.1))
       (λ _. (
         record {
           owner = passed.0;
@@ -90,13 +90,13 @@ module _ (start : ℕ → ℕ) (fs : List Fact) (kept : Kept start fs) where
       (λ covered. (record { found = ap (entity_in (year fs)) there.1 ∙ is; most = most; covered = covered }, (e, kept.entities.so e there.0, there.1, refl)))
 
   offers : (m i s b x : ℕ) → is_trading (year fs).stage ≡ true → known s ≡ true → 1 ≤ x → Ruled start fs m (MakeOffer i s b x)
-  offers m i s b x trading is_Known some =
+  offers m i s b x trading is_known some =
       says_walk _
       (is_open (year fs) s else NotOpen 2 ∷ is_open (year fs) b else NotOpen 3 ∷ not (eqb s b) else WrongParty 3
       ∷ not (is_some (offer_in (year fs) i)) else InUse 1 ∷ ltb (length (year fs).offers) 32 else RegisterFull ∷ []) _
       (tt, (tt, (tt, (tt, (tt, tt)))))
       (λ passed.
-      says_debited (Said start fs (MakeOffer i s b x)) Holding (holds start fs) m s x is_Known some
+      says_debited (Said start fs (MakeOffer i s b x)) Holding (holds start fs) m s x is_known some
       (λ covered. (
         record {
           trading = trading;
@@ -111,16 +111,16 @@ module _ (start : ℕ → ℕ) (fs : List Fact) (kept : Kept start fs) where
 
   ends : (m i a : ℕ) (party : Offer → ℕ) → ((o : Offer) → (party o ≡ o.seller) ⊎ (party o ≡ o.buyer)) → is_trading (year fs).stage ≡ true → known a ≡ true
       → (found : Option Offer) → offer_in (year fs) i ≡ found → Says (λ _. Ends start fs party i a (ended_for party found)) (ending (holds start fs) m party found a)
-  ends m i a party is_party trading is_Known None is = tt
-  ends m i a party is_party trading is_Known (Some o) is =
+  ends m i a party is_party trading is_known None is = tt
+  ends m i a party is_party trading is_known (Some o) is =
       let there = lookup_has offer_number i (year fs).offers o is in
       let agreed = all_member (Agreed (λ k. Opened k fs)) (year fs).offers o kept.agreed there.0 in
-      let range = known_range a is_Known in
+      let range = known_range a is_known in
       let room : holds start fs a + o.amount ≤ limit = omega (arith, held_most start fs kept a range.0 range.1, offer_most start fs kept i o is) in
       says_walk _ (eqb a (party o) else WrongParty 2 ∷ []) _ (tt, tt)
       (λ passed.
       let caller : party o ≡ a = sym (eqb-true a (party o) passed.0) in
-      says_credited _ Holding (holds start fs) m a o.amount is_Known agreed.2 room
+      says_credited _ Holding (holds start fs) m a o.amount is_known agreed.2 room
       (record { trading = trading; found = ap (offer_in (year fs)) there.1 ∙ is; party = is_party o }, (o, kept.offers.so o there.0, there.1, caller, ap (ended o) caller)))
 
   loads : (a t : ℕ) (s : Step) → t ≤ (year fs).n → (found : Option Account) → account_in (year fs) a ≡ found → Says (Said start fs (Load a t s)) (loading found (sort_at s.sort) t)

@@ -47,28 +47,28 @@ module _ (P : Reply → Type 0) where
   module _ (reply : ℕ → Reply) where
     -- A post by a known account of an amount that is not 0 has posts left or is refused for want of them.
     says_posted : (m a x : ℕ) (own : Result ℕ LedgerFault) → known a ≡ true → 1 ≤ x → Says P (passed_on reply own) → Says P (passed_on reply (posting m a x own))
-    says_posted m a x own is_Known some says =
+    says_posted m a x own is_known some says =
         cond_both (known a) _ (Err (NoSuchAccount a)) (λ r. Says P (passed_on reply r))
         (λ _. cond_both (leb 1 x) _ (Err (NoAmount a)) (λ r. Says P (passed_on reply r))
         (λ _. cond_both (leb 1 m) own (Err (NoPostsLeft a)) (λ r. Says P (passed_on reply r)) (λ _. says) (λ _. tt))
         (λ e. absurd (both_ways (leb 1 x) e (le-leb 1 x some))))
-        (λ e. absurd (both_ways (known a) e is_Known))
+        (λ e. absurd (both_ways (known a) e is_known))
 
     pub says_credited : (f : ℕ → ℕ) (m a x : ℕ) → known a ≡ true → 1 ≤ x → f a + x ≤ limit → P (reply (f a + x)) → Says P (passed_on reply (crediting f m a x))
-    says_credited f m a x is_Known some room says =
-        says_posted m a x _ is_Known some
+    says_credited f m a x is_known some room says =
+        says_posted m a x _ is_known some
         (cond_both (leb (f a + x) limit) (Ok (f a + x)) (Err (PastLimit a)) (λ r. Says P (passed_on reply r)) (λ _. says) (λ e. absurd (both_ways (leb (f a + x) limit) e (le-leb (f a + x) limit room))))
 
     pub says_debited : (f : ℕ → ℕ) (m a x : ℕ) → known a ≡ true → 1 ≤ x → (x ≤ f a → P (reply (f a - x))) → Says P (passed_on reply (debiting f m a x))
-    says_debited f m a x is_Known some says =
-        says_posted m a x _ is_Known some
+    says_debited f m a x is_known some says =
+        says_posted m a x _ is_known some
         (cond_both (leb x (f a)) (Ok (f a - x)) (Err (BeyondHolding a)) (λ r. Says P (passed_on reply r)) (λ e. says (leb-true x (f a) e)) (λ _. tt))
 
   pub says_levelled : (f : ℕ → ℕ) (m a old new : ℕ) → known a ≡ true → f a + new ≤ limit → (old - new ≤ f a → P (Level new)) → Says P (levelling f m a old new)
-  says_levelled f m a old new is_Known room says =
+  says_levelled f m a old new is_known room says =
       cond_both (eqb new old) (Ok (Level new)) (passed_on (λ _. Level new) (cond (ltb old new) (crediting f m a (new - old)) (debiting f m a (old - new)))) (Says P)
       (λ e. says (omega (arith, eqb-true new old e)))
       (λ e. let other = eqb-false new old e in
       cond_both (ltb old new) (crediting f m a (new - old)) (debiting f m a (old - new)) (λ r. Says P (passed_on (λ _. Level new) r))
-      (λ l. let lt = ltb-true old new l in says_credited (λ _. Level new) f m a (new - old) is_Known (omega arith) (omega arith) (says (omega arith)))
-      (λ l. let le = ltb-false old new l in says_debited (λ _. Level new) f m a (old - new) is_Known (omega arith) says))
+      (λ l. let lt = ltb-true old new l in says_credited (λ _. Level new) f m a (new - old) is_known (omega arith) (omega arith) (says (omega arith)))
+      (λ l. let le = ltb-false old new l in says_debited (λ _. Level new) f m a (old - new) is_known (omega arith) says))

@@ -50,8 +50,8 @@ room_everywhere f all os i found past is = sym (ap (first_without_room f all) (d
 
 -- a credit with an account, an amount, a post and room is accepted
 pub credit_accepted : (f : ℕ → ℕ) (m a x : ℕ) → known a ≡ true → 1 ≤ x → 1 ≤ m → f a + x ≤ limit → crediting f m a x ≡ Ok (f a + x)
-credit_accepted f m a x is_Known some posts room =
-    cond-true (known a) _ _ is_Known ∙ cond-true (leb 1 x) _ _ (le-leb 1 x some) ∙ cond-true (leb 1 m) _ _ (le-leb 1 m posts) ∙ cond-true (leb (f a + x) limit) _ _ (le-leb (f a + x) limit room)
+credit_accepted f m a x is_known some posts room =
+    cond-true (known a) _ _ is_known ∙ cond-true (leb 1 x) _ _ (le-leb 1 x some) ∙ cond-true (leb 1 m) _ _ (le-leb 1 m posts) ∙ cond-true (leb (f a + x) limit) _ _ (le-leb (f a + x) limit room)
 
 returned_most : (k : ℕ) (os : List Offer) → returned_to k os ≤ sum_by offered_amount os
 returned_most k [] = omega arith

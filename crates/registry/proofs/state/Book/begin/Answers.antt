@@ -9,4 +9,10 @@ invariant_of-self g c =
     let s = c.args.self.now in
     let none = no_half_hours s.stage s.n s.security c.requires s.terms in
     let more : c.args.self.now.n ≤ c.args.n = omega (arith, none) in
-    (s.rooms, (terms_fine c.args.n c.args.security (sym c.in_ok-terms_in_range.ensures), (s.prices, (∥∥₁_map s.kept (kept_longer s.n c.args.n (rows s.accounts) more), (s.real, tt)))))
+    record {
+      rooms = s.rooms;
+      terms = terms_fine c.args.n c.args.security (sym c.in_ok-terms_in_range.ensures);
+      prices = s.prices;
+      kept = ∥∥₁_map s.kept (kept_longer s.n c.args.n (rows s.accounts) more);
+      real = s.real;
+    }

@@ -25,4 +25,10 @@ pub invariant_of-self : goal.invariant_of-self
 invariant_of-self g c =
     let s = c.args.self.now in
     let e = c.clear.ensures in
-    ((s.rooms.0, s.rooms.1, e.unchanged ∙ s.rooms.2), (ap (λ (t : Stage). terms_kept t s.n s.security) (sym c.requires) ∙ s.terms, (s.prices, (s.kept, (∣ subst Real (sym e.after) tt ∣₁, tt)))))
+    record {
+      rooms = (s.rooms.0, s.rooms.1, e.unchanged ∙ s.rooms.2);
+      terms = ap (λ (t : Stage). terms_kept t s.n s.security) (sym c.requires) ∙ s.terms;
+      prices = s.prices;
+      kept = s.kept;
+      real = ∣ subst Real (sym e.after) tt ∣₁;
+    }

@@ -8,4 +8,10 @@ pub invariant_of-self : goal.invariant_of-self
 invariant_of-self g c =
     let s = c.args.self.now in
     let e = c.remove.ensures in
-    ((s.rooms.0, s.rooms.1, e.unchanged ∙ s.rooms.2), (s.terms, (s.prices, (s.kept, (∥∥₁_map s.real (real_without _ (rows s.offers) _ e.after), tt)))))
+    record {
+      rooms = (s.rooms.0, s.rooms.1, e.unchanged ∙ s.rooms.2);
+      terms = s.terms;
+      prices = s.prices;
+      kept = s.kept;
+      real = ∥∥₁_map s.real (real_without _ (rows s.offers) _ e.after);
+    }

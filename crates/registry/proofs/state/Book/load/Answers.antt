@@ -58,4 +58,10 @@ invariant_of-self c =
     let e = c.replace.ensures in
     let found = found_as c.from.result c.args.account (rows s.accounts) (Some c.in-Some.found) c.from.ensures c.in-Some.ensures in
     let in_year = load_in_year (year_in s) c.args.account c.args.number c.args.step c.in_ok-addition.addition (sym c.in_ok-addition.ensures.answer) in
-    ((e.unchanged ∙ s.rooms.0, s.rooms.1, s.rooms.2), (s.terms, (s.prices, (∥∥₁_map s.kept (kept_loaded s.n c.args.account c.args.number c.in_ok-addition.addition c.in-Some.found c.in_ok-grown.grown (rows s.accounts) _ found in_year c.in_ok-addition.ensures.bound c.in_ok-grown.ensures e.after), (s.real, tt)))))
+    record {
+      rooms = (e.unchanged ∙ s.rooms.0, s.rooms.1, s.rooms.2);
+      terms = s.terms;
+      prices = s.prices;
+      kept = ∥∥₁_map s.kept (kept_loaded s.n c.args.account c.args.number c.in_ok-addition.addition c.in-Some.found c.in_ok-grown.grown (rows s.accounts) _ found in_year c.in_ok-addition.ensures.bound c.in_ok-grown.ensures e.after);
+      real = s.real;
+    }

@@ -8,4 +8,10 @@ invariant_of-result c =
     let a = c.new-accounts.ensures in
     let e = c.new-entities.ensures in
     let o = c.new-offers.ensures in
-    ((a.unchanged ∙ search rules, e.unchanged ∙ search rules, o.unchanged ∙ search rules), (refl, ((lit≤ tt, lit≤ tt), (∣ subst (Kept 0) (sym a.after) ((tt, tt, tt), tt) ∣₁, (∣ subst Real (sym o.after) tt ∣₁, tt)))))
+    record {
+      rooms = (a.unchanged ∙ search rules, e.unchanged ∙ search rules, o.unchanged ∙ search rules);
+      terms = refl;
+      prices = (lit≤ tt, lit≤ tt);
+      kept = ∣ subst (Kept 0) (sym a.after) ((tt, tt, tt), tt) ∣₁;
+      real = ∣ subst Real (sym o.after) tt ∣₁;
+    }
