@@ -3,7 +3,7 @@ use Rattle.std.proofs.Common.{◌≡◌, ℕ, ◌<◌, ◌≤◌, List, [], ◌�
 use mathlib.Core.HLevel.{×_prop}
 use mathlib.Core.Logic.{∥∥₁_elim}
 use native.Mathlib.Bridge.{le_prop}
-use Rattle.std.specs.List.{AllByRecursion as All}
+use Rattle.std.specs.List.{AllByRecursion}
 use Rattle.std.proofs.ByRecursion.{All-get_or, All-weaker}
 use Rattle.registers.specs.Rows.{Above, Within, Numbered, lookup}
 use Rattle.registers.proofs.Members.{lookup_has, all_member}
@@ -15,11 +15,11 @@ use Rattle.accounts.specs.Bounds.{Bounded, Sound, Kept}
 sound_prop : (n : ℕ) (a : Account) → IsProp (Sound n a)
 sound_prop n a s t = λ i. (le_prop s.0 t.0 i, le_prop s.1 t.1 i, ×_prop le_prop le_prop s.2 t.2 i, ×_prop le_prop le_prop s.3 t.3 i)
 
-all_sound : (n : ℕ) (accounts : List Account) → Above account_number 0 accounts → Within account_number 64 accounts → All (λ a. Bounded n a.profiled × Bounded n a.losses) accounts → All (Sound n) accounts
+all_sound : (n : ℕ) (accounts : List Account) → Above account_number 0 accounts → Within account_number 64 accounts → AllByRecursion (λ a. Bounded n a.profiled × Bounded n a.losses) accounts → AllByRecursion (Sound n) accounts
 all_sound n [] low high bounded = tt
 all_sound n (a ∷ accounts) low high bounded = ((low.0, high.0, bounded.0.0, bounded.0.1), all_sound n accounts low.1 high.1 bounded.1)
 
-kept_sound : (n : ℕ) (accounts : List Account) → Kept n accounts → All (Sound n) accounts
+kept_sound : (n : ℕ) (accounts : List Account) → Kept n accounts → AllByRecursion (Sound n) accounts
 kept_sound n accounts kept = all_sound n accounts kept.0.1 kept.0.2 kept.1
 
 pub sound_at : (n : ℕ) (accounts : List Account) (i : ℕ) (d : Account) → ∥ Kept n accounts ∥₁ → i < length accounts → Sound n (get_or accounts i d)

@@ -1,6 +1,6 @@
 -- What the records of accounts keep, so that no sum overflows.
 use Rattle.std.specs.Prelude.{◌≡◌, ℕ, ◌*◌, ◌≤◌, Bool, true, ◌&&◌, List, unsigned_abs}
-use Rattle.std.specs.List.{AllByRecursion as All}
+use Rattle.std.specs.List.{AllByRecursion}
 use Rattle.curves.specs.Ranges.{within}
 use Rattle.curves.specs.Obligations.{most_added}
 use Rattle.registers.specs.Rows.{Numbered}
@@ -18,7 +18,7 @@ Sound n a = (1 ≤ a.number) × (a.number ≤ 64) × Bounded n a.profiled × Bou
 
 -- Accounts of a year of n half-hours: numbers from 1 to 64, rising, with bounded series.
 abbrev pub Kept : ℕ → List Account → Type 0
-Kept n accounts = Numbered account_number 64 accounts × All (λ a. Bounded n a.profiled × Bounded n a.losses) accounts
+Kept n accounts = Numbered account_number 64 accounts × AllByRecursion (λ a. Bounded n a.profiled × Bounded n a.losses) accounts
 
 -- The terms of a year: n from 1 to 400, the security coefficient to 2,000.
 abbrev pub Terms : ℕ → ℕ → Type 0

@@ -4,7 +4,7 @@ use native.Mathlib.Nat.{div-le_of_le-mul}
 use Rattle.std.proofs.lemmas.Nat.{mul-le}
 use Rattle.std.proofs.lemmas.Int.{ints}
 use Rattle.std.proofs.lemmas.Bool.{eqb-true, leb-true}
-use Rattle.std.specs.List.{AllByRecursion as All}
+use Rattle.std.specs.List.{AllByRecursion}
 use Rattle.curves.specs.declared.obligations.Sort.{Sort}
 use Rattle.curves.specs.declared.obligations.Sort.TheVariants.{Profiled, Losses}
 use Rattle.curves.specs.declared.obligations.Step.{Step}
@@ -38,7 +38,7 @@ added_as_most Losses s h =
 pub step_adds_most : (s : Step) → AllFine (step_fine s) → nat_abs (step_adds s) ≤ most_added
 step_adds_most s h = added_as_most (sort_at s.sort) s h.1
 
-pub total_added_most : (steps : List Step) → All (λ s. AllFine (step_fine s)) steps → nat_abs (total_added steps) ≤ length steps * most_added
+pub total_added_most : (steps : List Step) → AllByRecursion (λ s. AllFine (step_fine s)) steps → nat_abs (total_added steps) ≤ length steps * most_added
 total_added_most [] h = omega arith
 total_added_most (s ∷ steps) h =
     omega (arith, ints, step_adds_most s h.0, total_added_most steps h.1, suc-mul (length steps) most_added)

@@ -1,6 +1,6 @@
 -- Every answer is as the law says of it, and an accepted call has founded its fact.
 use Rattle.std.proofs.Common.{◌≡◌, ℕ, ◌+◌, ◌≤◌, true, not, eqb, ltb, leb, ◌⊎◌, List, [], ◌∷◌, length, is_some, Some, None, Ok, Option, sym, refl, ap, ◌∙◌, inl, inr, arith}
-use Rattle.std.specs.List.{AllByRecursion as All}
+use Rattle.std.specs.List.{AllByRecursion}
 use Rattle.std.proofs.lemmas.Bool.{both_ways, and_parts, and_from, not-true, leb-true, le-leb, ltb-true, eqb-true, cond-true}
 use Rattle.registers.proofs.Members.{all_member, lookup_has}
 use Rattle.ledger.specs.declared.fault.LedgerFault.TheVariants.{PastLimit}
@@ -131,7 +131,7 @@ module _ (start : ℕ → ℕ) (fs : List Fact) (kept : Kept start fs) where
       (λ passed. (record { account = x; found = is; next = omega (arith, in_year, eqb-true t next passed.0) }, tt))
 
   -- Every seller has room for all offers.
-  none_without_room : (os : List Offer) → All (Agreed (λ k. Opened k fs)) os → first_without_room (holds start fs) (under_offers fs) os ≡ None
+  none_without_room : (os : List Offer) → AllByRecursion (Agreed (λ k. Opened k fs)) os → first_without_room (holds start fs) (under_offers fs) os ≡ None
   none_without_room [] agreed = refl
   none_without_room (o ∷ os) agreed =
       let range = opened_range start fs kept o.seller agreed.0.0 in

@@ -1,6 +1,6 @@
 -- What every history keeps from its accepted begin on, and what follows from it at once.
 use Rattle.std.proofs.Common.{◌≡◌, ℕ, ◌+◌, ◌≤◌, true, false, List, [], length, is_some, Some, None, sum_by, Option, refl, subst, arith}
-use Rattle.std.specs.List.{AllByRecursion as All}
+use Rattle.std.specs.List.{AllByRecursion}
 use Rattle.std.proofs.lemmas.Bool.{true≢false, false≢true}
 use Rattle.std.proofs.ByRecursion.{All-weaker, sum_by_le}
 use Rattle.registers.specs.Rows.{lookup}
@@ -34,8 +34,8 @@ pub record Kept (start : ℕ → ℕ) (fs : List Fact) : Type 0 where
   pub accounts : AccountsTell (year fs).n (year fs).accounts (λ k. Opened k fs) (λ k. loads k fs)
   pub entities : Tells entity_number (year fs).entities (λ e. Levelled e fs)
   pub offers : Tells offer_number (year fs).offers (λ o. Stands o fs)
-  pub owned : All (Owned (λ k. Opened k fs)) (year fs).entities
-  pub agreed : All (Agreed (λ k. Opened k fs)) (year fs).offers
+  pub owned : AllByRecursion (Owned (λ k. Opened k fs)) (year fs).entities
+  pub agreed : AllByRecursion (Agreed (λ k. Opened k fs)) (year fs).offers
   pub few : length (year fs).entities ≤ 64
   pub part : (k : ℕ) → 1 ≤ k → k ≤ 64 → OwnPart start fs k
   -- all guarantees are the levels of the entities, and these are what was certified and raised, less what was cut

@@ -1,6 +1,6 @@
 -- What is said of an answer that comes from checks: P of an accepted reply, and of a refusal that it is one of those that come up.
 use Rattle.std.proofs.Common.{◌≡◌, ℕ, ◌+◌, ◌-◌, ◌≤◌, Bool, true, cond, eqb, ltb, leb, List, [], ◌∷◌, Some, None, Ok, Err, Option, Result, refl, arith}
-use Rattle.std.specs.List.{AllByRecursion as All}
+use Rattle.std.specs.List.{AllByRecursion}
 use Rattle.std.proofs.lemmas.Bool.{cond_both, both_ways, le-leb, leb-true, ltb-true, ltb-false, eqb-true, eqb-false}
 use Rattle.ledger.specs.declared.fault.LedgerFault.{LedgerFault}
 use Rattle.ledger.specs.declared.fault.LedgerFault.TheVariants.{NoSuchAccount, NoAmount, NoPostsLeft, BeyondHolding, PastLimit}
@@ -22,10 +22,10 @@ says_weaker P Q weaker (Err fault) says = says
 
 -- Every check of a list passed.
 abbrev pub Passed : List Check → Type 0
-Passed checks = All (λ check. check.0 ≡ true) checks
+Passed checks = AllByRecursion (λ check. check.0 ≡ true) checks
 
 abbrev pub InRange : List Bool → Type 0
-InRange fields = All (λ fine. fine ≡ true) fields
+InRange fields = AllByRecursion (λ fine. fine ≡ true) fields
 
 module _ (P : Reply → Type 0) where
   pub says_if : (fine : Bool) (later : Answer) (fault : RegistryFault) → RefusedSo fault → (fine ≡ true → Says P later) → Says P (cond fine later (Err fault))
@@ -36,7 +36,7 @@ module _ (P : Reply → Type 0) where
   says_in_range place (fine ∷ fields) later says =
       says_if fine (in_range (place + 1) fields later) (OutOfRange place) tt (λ e. says_in_range (place + 1) fields later (λ rest. says (e, rest)))
 
-  pub says_walk : (checks : List Check) (later : Answer) → All (λ check. RefusedSo check.1) checks → (Passed checks → Says P later) → Says P (walk checks later)
+  pub says_walk : (checks : List Check) (later : Answer) → AllByRecursion (λ check. RefusedSo check.1) checks → (Passed checks → Says P later) → Says P (walk checks later)
   says_walk [] later so says = says tt
   says_walk (check ∷ checks) later so says = says_if check.0 (walk checks later) check.1 so.0 (λ e. says_walk checks later so.1 (λ rest. says (e, rest)))
 

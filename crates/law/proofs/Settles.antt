@@ -1,6 +1,6 @@
 -- What a settlement and a report answer, from the facts alone.
 use Rattle.std.proofs.Common.{◌≡◌, ℕ, ◌≤◌, false, ◌⊎◌, List, [], ◌∷◌, map, length, ℤ, pos, ◌+ℤ◌, ◌-ℤ◌, Some, None, sum_by, Option, refl, ap, subst, inl, inr, arith}
-use Rattle.std.specs.List.{AllByRecursion as All}
+use Rattle.std.specs.List.{AllByRecursion}
 use Rattle.std.proofs.lemmas.Int.{ints}
 use Rattle.std.proofs.lemmas.List.Sums.{sum_by-cons}
 use Rattle.std.proofs.lemmas.Bool.{cond_both, or_parts}
@@ -38,10 +38,10 @@ gap_told : (start : ℕ → ℕ) (fs : List Fact) (a : Account) → RecordTells 
 gap_told start fs a tells = ap (λ (due : ℕ). pos (holds start fs a.number) -ℤ pos due) (obligation_told fs a tells)
 
 -- Where no account is found incomplete, none is.
-none_incomplete : (n : ℕ) (accounts : List Account) → first_incomplete n accounts ≡ None → All (λ a. is_incomplete n a ≡ false) accounts
+none_incomplete : (n : ℕ) (accounts : List Account) → first_incomplete n accounts ≡ None → AllByRecursion (λ a. is_incomplete n a ≡ false) accounts
 none_incomplete n [] = λ _. tt
 none_incomplete n (a ∷ accounts) =
-    cond_both (is_incomplete n a) (Some a.number) (first_incomplete n accounts) (λ found. found ≡ None → All (λ a. is_incomplete n a ≡ false) (a ∷ accounts))
+    cond_both (is_incomplete n a) (Some a.number) (first_incomplete n accounts) (λ found. found ≡ None → AllByRecursion (λ a. is_incomplete n a ≡ false) (a ∷ accounts))
     (λ _ e. absurd (let z : ◌≡◌ {A = ℕ} 0 1 = cc in omega arith))
     (λ fine e. (fine, none_incomplete n accounts e))
 

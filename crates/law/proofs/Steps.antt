@@ -1,6 +1,6 @@
 -- Each fact keeps what a history keeps.
 use Rattle.std.proofs.Common.{◌≡◌, ℕ, ◌+◌, ◌-◌, ◌≤◌, true, ◌⊎◌, List, [], ◌∷◌, sum_by, Option, sym, refl, ap, subst, inr, ⊎_elim, arith}
-use Rattle.std.specs.List.{AllByRecursion as All}
+use Rattle.std.specs.List.{AllByRecursion}
 use Rattle.std.proofs.lemmas.Bool.{both_ways}
 use Rattle.std.proofs.ByRecursion.{All-weaker}
 use Rattle.std.proofs.lemmas.List.Sums.{sum_by-cons}
@@ -41,7 +41,7 @@ begins start n security none =
     }
 
 -- What the offers return to their sellers, in all, and to an account that sells none.
-returned_total : (os : List Offer) → All (λ o. (1 ≤ o.seller) × (o.seller ≤ 64)) os → total (λ k. returned_to k os) 64 ≡ sum_by offered_amount os
+returned_total : (os : List Offer) → AllByRecursion (λ o. (1 ≤ o.seller) × (o.seller ≤ 64)) os → total (λ k. returned_to k os) 64 ≡ sum_by offered_amount os
 returned_total [] h = total_zero (λ k. 0) 64 (λ k l m. refl)
 returned_total (o ∷ os) h =
     omega (
@@ -52,7 +52,7 @@ returned_total (o ∷ os) h =
       total_plus (to o.seller o.amount) (λ k. returned_to k os) (λ k. returned_to k (o ∷ os)) 64 (λ k l m. sum_by-cons (λ o. to o.seller o.amount k) o os),
     )
 
-returned_none : (k : ℕ) (os : List Offer) → All (λ o. k ≡ o.seller → ⊥) os → returned_to k os ≡ 0
+returned_none : (k : ℕ) (os : List Offer) → AllByRecursion (λ o. k ≡ o.seller → ⊥) os → returned_to k os ≡ 0
 returned_none k [] h = refl
 returned_none k (o ∷ os) h = omega (arith, to_other o.seller o.amount k h.0, returned_none k os h.1, sum_by-cons (λ o. to o.seller o.amount k) o os)
 
@@ -203,7 +203,7 @@ module _ (start : ℕ → ℕ) (fs : List Fact) (kept : Kept start fs) where
 
   closes : (os : List Offer) → os ≡ (year fs).offers → Kept start (closed os ∷ fs)
   closes os all_of_them =
-      let agreed : All (Agreed (λ k. Opened k fs)) os = subst (λ (xs : List Offer). All (Agreed (λ k. Opened k fs)) xs) (sym all_of_them) kept.agreed in
+      let agreed : AllByRecursion (Agreed (λ k. Opened k fs)) os = subst (λ (xs : List Offer). AllByRecursion (Agreed (λ k. Opened k fs)) xs) (sym all_of_them) kept.agreed in
       let whole = returned_total os (All-weaker _ _ (λ o h. opened_range start fs kept o.seller h.0) os agreed) in
       record {
         begun = refl;

@@ -1,14 +1,14 @@
 -- Which records a list has after a change, and which one is found.
 use Rattle.std.proofs.Common.{◌≡◌, ℕ, ◌<◌, ◌≤◌, cond, eqb, ltb, ◌≢◌, ◌⊎◌, ◌↔◌, List, [], ◌∷◌, Some, None, sym, refl, ap, ◌∙◌, subst, inl, inr, ⊎_elim, arith}
 use mathlib.Core.Logic.Iff
-use Rattle.std.specs.List.{AllByRecursion as All}
+use Rattle.std.specs.List.{AllByRecursion}
 use Rattle.std.proofs.lemmas.Bool.{cond_both}
 use Rattle.std.proofs.lemmas.Bool.Decides.{nat_tests}
 use Rattle.registers.specs.Laws.{Member}
 use Rattle.registers.specs.Rows.{Above, Rising, lookup, inserted, without, replaced}
 use Rattle.registers.proofs.Walks.{by_order}
 
-pub all_member : {R : Type 0} (P : R → Type 0) (xs : List R) (x : R) → All P xs → Member x xs → P x
+pub all_member : {R : Type 0} (P : R → Type 0) (xs : List R) (x : R) → AllByRecursion P xs → Member x xs → P x
 all_member P [] x h m = absurd m
 all_member P (y ∷ ys) x h m = ⊎_elim (λ e. subst P (sym e) h.0) (λ t. all_member P ys x h.1 t) m
 

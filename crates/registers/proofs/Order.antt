@@ -1,6 +1,6 @@
 -- What each change keeps: what holds of every record, the order, and the range of the numbers.
 use Rattle.std.proofs.Common.{◌≡◌, ℕ, ◌<◌, ◌≤◌, ltb, List, [], ◌∷◌, None, arith}
-use Rattle.std.specs.List.{AllByRecursion as All}
+use Rattle.std.specs.List.{AllByRecursion}
 use Rattle.std.proofs.ByRecursion.{All-weaker}
 use Rattle.std.proofs.lemmas.Bool.{cond_both, ltb-true}
 use Rattle.std.proofs.lemmas.Bool.Decides.{nat_tests}
@@ -9,17 +9,17 @@ use Rattle.registers.proofs.Walks.{by_order}
 
 module _ {R : Type 0} (key : R → ℕ) where
   -- What holds of each record holds of each after a change.
-  pub all_inserted : (P : R → Type 0) (r : R) (xs : List R) → P r → All P xs → All P (inserted key r xs)
+  pub all_inserted : (P : R → Type 0) (r : R) (xs : List R) → P r → AllByRecursion P xs → AllByRecursion P (inserted key r xs)
   all_inserted P r [] new h = (new, tt)
-  all_inserted P r (x ∷ xs) new h = cond_both (ltb (key x) (key r)) _ _ (All P) (λ _. (h.0, all_inserted P r xs new h.1)) (λ _. (new, h))
+  all_inserted P r (x ∷ xs) new h = cond_both (ltb (key x) (key r)) _ _ (AllByRecursion P) (λ _. (h.0, all_inserted P r xs new h.1)) (λ _. (new, h))
 
-  pub all_without : (P : R → Type 0) (n : ℕ) (xs : List R) → All P xs → All P (without key n xs)
+  pub all_without : (P : R → Type 0) (n : ℕ) (xs : List R) → AllByRecursion P xs → AllByRecursion P (without key n xs)
   all_without P n [] h = tt
-  all_without P n (x ∷ xs) h = by_order key (All P) x n _ _ _ (λ _. (h.0, all_without P n xs h.1)) (λ _. h.1) (λ _. h)
+  all_without P n (x ∷ xs) h = by_order key (AllByRecursion P) x n _ _ _ (λ _. (h.0, all_without P n xs h.1)) (λ _. h.1) (λ _. h)
 
-  pub all_replaced : (P : R → Type 0) (r : R) (xs : List R) → ((x : R) → key x ≡ key r → P x → P r) → All P xs → All P (replaced key r xs)
+  pub all_replaced : (P : R → Type 0) (r : R) (xs : List R) → ((x : R) → key x ≡ key r → P x → P r) → AllByRecursion P xs → AllByRecursion P (replaced key r xs)
   all_replaced P r [] new h = tt
-  all_replaced P r (x ∷ xs) new h = by_order key (All P) x (key r) _ _ _ (λ _. (h.0, all_replaced P r xs new h.1)) (λ e. (new x e h.0, h.1)) (λ _. h)
+  all_replaced P r (x ∷ xs) new h = by_order key (AllByRecursion P) x (key r) _ _ _ (λ _. (h.0, all_replaced P r xs new h.1)) (λ e. (new x e h.0, h.1)) (λ _. h)
 
   above_less : (m n : ℕ) (xs : List R) → m ≤ n → Above key n xs → Above key m xs
   above_less m n xs le h = All-weaker _ _ (λ x lt. omega arith) xs h

@@ -1,16 +1,16 @@
 -- Numbered records as lists: in strictly rising order of number, and what is found, put in, taken out and replaced.
 -- Each walk goes from the front as far as the first number that is not below the one sought.
 use Rattle.std.specs.Prelude.{ℕ, ◌<◌, ◌≤◌, cond, List, [], ◌∷◌, Some, None, Option, ◌==◌, nat_lt}
-use Rattle.std.specs.List.{AllByRecursion as All}
+use Rattle.std.specs.List.{AllByRecursion}
 
 module _ {R : Type 0} (key : R → ℕ) where
   -- Each number is above n.
   abbrev pub Above : ℕ → List R → Type 0
-  Above n xs = All (λ x. n < key x) xs
+  Above n xs = AllByRecursion (λ x. n < key x) xs
 
   -- No number is above n.
   abbrev pub Within : ℕ → List R → Type 0
-  Within n xs = All (λ x. key x ≤ n) xs
+  Within n xs = AllByRecursion (λ x. key x ≤ n) xs
 
   -- The numbers rise strictly.
   abbrev pub Rising : List R → Type 0

@@ -1,6 +1,6 @@
 -- What the state keeps through the calls.
 use Rattle.std.proofs.Common.{◌≡◌, ℕ, ◌+◌, ◌*◌, ◌<◌, ◌≤◌, Bool, true, false, cond, ◌&&◌, eqb, leb, List, [], ◌∷◌, length, nat_abs, is_some, is_ok, Some, None, Ok, Err, Option, Result, sym, refl, ap, ◌∙◌, subst, arith}
-use Rattle.std.specs.List.{AllByRecursion as All}
+use Rattle.std.specs.List.{AllByRecursion}
 use Rattle.std.proofs.ByRecursion.{All-weaker}
 use Rattle.std.proofs.lemmas.Bool.{eqb-true, leb-true, and_parts}
 use Rattle.curves.specs.declared.ranges.OutOfRange.{OutOfRange}
@@ -55,7 +55,7 @@ kept_opened n a places new xs ys r fresh is answer after kept =
     let high : account_number new ≤ 64 = omega (arith, numbered, range.1) in
     let P : Account → Type 0 = λ x. Bounded n x.profiled × Bounded n x.losses in
     let empty : P new = subst P (sym fresh) ((omega arith, omega arith), (omega arith, omega arith)) in
-    (numbered_entered account_number 64 new places xs ys r answer after low high kept.0, by_entry account_number (All P) new places xs ys r answer after kept.1 (λ _ _. all_inserted account_number P new xs empty kept.1))
+    (numbered_entered account_number 64 new places xs ys r answer after low high kept.0, by_entry account_number (AllByRecursion P) new places xs ys r answer after kept.1 (λ _ _. all_inserted account_number P new xs empty kept.1))
 
 -- a register of accounts refuses only a number in use
 pub refused_in_use : (a : ℕ) (new : Account) (places : ℕ) (xs : List Account) (fault : RegisterFault) → new ≡ new_account a → known a ≡ true → places ≡ 64 → Numbered account_number 64 xs → Err fault ≡ entering account_number new places xs → is_some (lookup account_number a xs) ≡ true

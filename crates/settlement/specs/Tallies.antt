@@ -1,6 +1,6 @@
 -- The lists of gaps that stand behind the figures of a sheet.
 use Rattle.std.specs.Prelude.{◌≡◌, ℕ, true, List, length, ℤ}
-use Rattle.std.specs.List.{AllByRecursion as All}
+use Rattle.std.specs.List.{AllByRecursion}
 use Rattle.settlement.specs.Rules.{gap_fine, total_shortage, total_surplus_of, collected, paid_price_of}
 
 -- A gap is fine.
@@ -9,7 +9,7 @@ Fine gap = gap_fine gap ≡ true
 
 -- Each gap of a list is fine.
 abbrev pub AllFine : List ℤ → Type 0
-AllFine gaps = All Fine gaps
+AllFine gaps = AllByRecursion Fine gaps
 
 -- Two totals and a count are those of a list of fine gaps.
 pub record Tally (shortages surpluses count : ℕ) (gaps : List ℤ) : Type 0 where
