@@ -1,5 +1,5 @@
 -- The obligation of an account, and the gaps of all of them.
-use Rattle.std.proofs.Common.{◌≡◌, ℕ, suc, ◌+◌, ◌*◌, ◌<◌, ◌≤◌, leb, List, [], ◌∷◌, ◌++◌, map, length, get_or, take, ℤ, pos, ◌-ℤ◌, nat_abs, Some, Ok, sym, refl, ap, ◌∙◌, ⊎_elim, arith}
+use Rattle.std.proofs.Common.{◌≡◌, ℕ, suc, ◌+◌, ◌*◌, ◌<◌, ◌≤◌, List, [], ◌∷◌, ◌++◌, map, length, get_or, take, ℤ, pos, ◌-ℤ◌, nat_abs, Some, Ok, sym, ap, ◌∙◌, ⊎_elim, arith}
 use Rattle.std.specs.List.{ContainsAt as Has}
 use Rattle.std.proofs.lemmas.List.{length-map, length-take-le, map_more}
 use Rattle.std.proofs.lemmas.Bool.{le-leb}
@@ -14,7 +14,7 @@ use Rattle.settlement.proofs.Entries.{fine_gap_counts, fine_gap_entered}
 use Rattle.rules.specs.declared.records.Account.{Account}
 use Rattle.rules.specs.Records.{account_number}
 use Rattle.rules.specs.declared.calls.Statement.{Statement}
-use Rattle.rules.specs.Settling.{obligation_of, gap_of, gaps_of, statement_of}
+use Rattle.rules.specs.Settling.{obligation_of, gap_of, gaps_of}
 use Rattle.accounts.specs.Bounds.{Terms}
 
 -- an obligation within the terms is not refused

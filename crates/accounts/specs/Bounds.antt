@@ -1,7 +1,6 @@
 -- What the records of accounts keep, so that no sum overflows.
-use Rattle.std.specs.Prelude.{◌≡◌, ℕ, ◌*◌, ◌≤◌, Bool, true, ◌&&◌, List, unsigned_abs}
+use Rattle.std.specs.Prelude.{ℕ, ◌*◌, ◌≤◌, List, unsigned_abs}
 use Rattle.std.specs.List.{AllByRecursion}
-use Rattle.curves.specs.Ranges.{within}
 use Rattle.curves.specs.Obligations.{most_added}
 use Rattle.registers.specs.Rows.{Numbered}
 use Rattle.rules.specs.declared.records.Series.{Series}

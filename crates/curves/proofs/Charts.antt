@@ -1,5 +1,5 @@
 -- No coefficient is above 100 percent, so a level is never above 1,000,000.
-use Rattle.std.proofs.Common.{◌≡◌, ℕ, zero, suc, ◌+◌, ◌-◌, ◌*◌, ◌/◌, ◌%◌, ◌≤◌, Bool, true, cond, ◌&&◌, List, [], ◌∷◌, get_or, refl, arith}
+use Rattle.std.proofs.Common.{◌≡◌, ℕ, zero, suc, ◌+◌, ◌-◌, ◌*◌, ◌/◌, ◌%◌, ◌≤◌, List, [], ◌∷◌, get_or, refl, arith}
 use Rattle.std.proofs.lemmas.Nat.{mul-le}
 use Rattle.curves.specs.declared.levels.Method.{Method}
 use Rattle.curves.specs.declared.levels.Method.TheVariants.{Dispatchable, Hydraulic, Wind, Solar}

@@ -1,5 +1,5 @@
 -- The first decimal of a quotient, worked out from the remainder.
-use Rattle.std.proofs.Common.{◌≡◌, ℕ, ◌+◌, ◌*◌, ◌/◌, ◌%◌, ◌<◌, ◌≤◌, leb, sym, refl, ap, ◌∙◌, mul_left_comm, arith}
+use Rattle.std.proofs.Common.{◌≡◌, ℕ, ◌+◌, ◌*◌, ◌/◌, ◌%◌, ◌<◌, ◌≤◌, leb, ap, ◌∙◌, mul_left_comm, arith}
 use native.Mathlib.Nat.{div-add-mod, mul-add-div}
 use Rattle.std.proofs.lemmas.Nat.{div_below, mod_below}
 use Rattle.curves.specs.Rounding.{first_decimal, by_digit}

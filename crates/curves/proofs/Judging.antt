@@ -1,5 +1,5 @@
 -- Fields that are all in range, and the walk over them.
-use Rattle.std.proofs.Common.{◌≡◌, ℕ, ◌+◌, Bool, true, false, List, [], ◌∷◌, Ok, Err, sym, refl, ap, arith}
+use Rattle.std.proofs.Common.{◌≡◌, ℕ, ◌+◌, Bool, true, false, List, [], ◌∷◌, Ok, Err, refl, ap, arith}
 use Rattle.curves.specs.declared.ranges.OutOfRange.{OutOfRange}
 use Rattle.curves.specs.Ranges.{judged}
 

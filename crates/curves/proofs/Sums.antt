@@ -1,14 +1,14 @@
 -- What a step adds, a series' sum and its obligation stay small.
-use Rattle.std.proofs.Common.{◌≡◌, ℕ, zero, suc, ◌+◌, ◌*◌, ◌≤◌, Bool, true, false, eqb, leb, List, [], ◌∷◌, ◌++◌, length, ℤ, pos, negsuc, ◌+ℤ◌, ◌-ℤ◌, ◌*ℤ◌, nat_abs, refl, suc-mul, arith}
+use Rattle.std.proofs.Common.{◌≡◌, ℕ, ◌+◌, ◌*◌, ◌≤◌, List, [], ◌∷◌, ◌++◌, length, ℤ, pos, negsuc, ◌+ℤ◌, ◌-ℤ◌, ◌*ℤ◌, nat_abs, refl, suc-mul, arith}
 use native.Mathlib.Nat.{div-le_of_le-mul}
 use Rattle.std.proofs.lemmas.Nat.{mul-le}
 use Rattle.std.proofs.lemmas.Int.{ints}
-use Rattle.std.proofs.lemmas.Bool.{eqb-true, leb-true}
+use Rattle.std.proofs.lemmas.Bool.{leb-true}
 use Rattle.std.specs.List.{AllByRecursion}
 use Rattle.curves.specs.declared.obligations.Sort.{Sort}
 use Rattle.curves.specs.declared.obligations.Sort.TheVariants.{Profiled, Losses}
 use Rattle.curves.specs.declared.obligations.Step.{Step}
-use Rattle.curves.specs.Obligations.{added_as, most_added, not_negative, obligation_in_guarantees, readings_fine, reference_power, sort_at, step_adds, step_fine, sum_of_steps, total_added}
+use Rattle.curves.specs.Obligations.{added_as, most_added, not_negative, obligation_in_guarantees, readings_fine, reference_power, sort_at, step_adds, step_fine, total_added}
 use Rattle.curves.proofs.Decimals.{at_most}
 use Rattle.curves.proofs.Judging.{AllFine}
 use Rattle.curves.proofs.Products.{products_most}

@@ -1,5 +1,5 @@
 -- The marked figures of the rules, as one list.
-use Rattle.std.specs.Prelude.{◌≡◌, ℕ, [], ◌∷◌, pos, negsuc, Ok}
+use Rattle.std.specs.Prelude.{◌≡◌, [], ◌∷◌, pos, negsuc, Ok}
 use Rattle.curves.specs.declared.obligations.Step.{Step}
 use Rattle.curves.specs.Coefficients.{kj_of, kh_of}
 use Rattle.curves.specs.Levels.{level_of}

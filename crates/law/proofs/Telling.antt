@@ -1,12 +1,12 @@
 -- A call told by its contract goes on with the history.
-use Rattle.std.proofs.Common.{◌≡◌, ℕ, ◌+◌, ◌≤◌, cond, List, [], ◌∷◌, is_ok, Ok, Err, sym, refl, ap, ◌∙◌, subst, ap₂, arith}
+use Rattle.std.proofs.Common.{◌≡◌, ℕ, ◌≤◌, cond, List, [], ◌∷◌, is_ok, Ok, Err, refl, ◌∙◌, subst, arith}
 use mathlib.Core.Path.{fun_ext}
 use Rattle.rules.specs.declared.calls.Call.{Call}
 use Rattle.rules.specs.Year.{Year, blank_year}
 use Rattle.rules.specs.Facts.{Fact, did, after, moved, posts_of}
-use Rattle.rules.specs.Judgement.{Answer, judge}
+use Rattle.rules.specs.Judgement.{Answer}
 use Rattle.rules.specs.Calls.{Called}
-use Rattle.law.specs.Law.{Event, Past, year, holds, facts, also, posts_taken, Shows, Judged}
+use Rattle.law.specs.Law.{Past, year, holds, facts, also, posts_taken}
 use Rattle.law.specs.Told.{Told, LawfulNext, event}
 use Rattle.law.proofs.Lawful.{lawful}
 

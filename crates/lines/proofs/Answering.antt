@@ -4,7 +4,6 @@ use mathlib.Core.Path.{fun_ext}
 use Rattle.std.proofs.lemmas.List.{take_more, take_at, append_assoc, length-append, length-take-le, drop-drop, drop_at, take_all}
 use Rattle.rules.specs.Year.{Year}
 use Rattle.frames.specs.declared.fault.LineFault.{LineFault}
-use Rattle.frames.specs.declared.fault.LineFault.TheVariants.{NoSpace}
 use Rattle.frames.specs.Answers.{over}
 use Rattle.lines.specs.Lines.{Reading, LineRead, Refused, Unchanged, answer_line}
 use Rattle.lines.specs.Blocks.{State, longer_line, LineEnded, Answered, nothing_yet, one_byte, line_end}

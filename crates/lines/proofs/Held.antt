@@ -1,5 +1,5 @@
 -- A line held by its first 65 bytes.
-use Rattle.std.proofs.Common.{◌≡◌, ℕ, ◌+◌, ◌<◌, ◌≤◌, List, [], ◌∷◌, ◌++◌, length, take, set, sym, ap, ◌∙◌, arith}
+use Rattle.std.proofs.Common.{◌≡◌, ℕ, ◌+◌, ◌<◌, ◌≤◌, List, [], ◌∷◌, ◌++◌, length, take, set, sym, ◌∙◌, arith}
 use Rattle.std.proofs.lemmas.List.{take_more_set, take_all, take-append-le, length-append, length-take-le}
 
 pub held_longer : (held : List ℕ) (count byte : ℕ) → length held ≡ 65 → count < 65 → take (count + 1) (set held count byte) ≡ take 65 (take count held ++ (byte ∷ []))

@@ -1,5 +1,5 @@
 -- What every standing offer has: a seller among the accounts, and some guarantees.
-use Rattle.std.specs.Prelude.{◌≡◌, ℕ, ◌≤◌, true, List}
+use Rattle.std.specs.Prelude.{◌≡◌, ◌≤◌, true, List}
 use Rattle.std.specs.List.{AllByRecursion}
 use Rattle.ledger.specs.Rules.{known}
 use Rattle.rules.specs.declared.records.Offer.{Offer}

@@ -1,17 +1,17 @@
 -- How a call is judged, put together from the steps of its code.
-use Rattle.std.proofs.Common.{◌≡◌, ℕ, ◌+◌, ◌-◌, ◌<◌, ◌≤◌, Bool, true, false, cond, not, eqb, ltb, leb, List, [], ◌∷◌, length, is_some, Some, None, Ok, Err, Option, Result, sym, refl, ap, ◌∙◌, subst, ap₂, arith}
+use Rattle.std.proofs.Common.{◌≡◌, ℕ, ◌+◌, ◌-◌, ◌<◌, ◌≤◌, Bool, true, false, cond, not, eqb, ltb, List, [], ◌∷◌, length, is_some, Some, Ok, Err, Option, Result, sym, refl, ap, ◌∙◌, subst, ap₂, arith}
 use Rattle.std.proofs.lemmas.Bool.{cond-true, cond-false, lt-ltb}
 use Rattle.curves.specs.declared.ranges.OutOfRange.{OutOfRange}
 use Rattle.curves.specs.Ranges.{judged}
 use Rattle.rules.specs.declared.calls.Call.{Call}
 use Rattle.rules.specs.declared.calls.Reply.{Reply}
-use Rattle.rules.specs.declared.calls.Stage.TheVariants.{Blank, Trading, Closed, Settled}
+use Rattle.rules.specs.declared.calls.Stage.TheVariants.{Trading}
 use Rattle.rules.specs.declared.faults.RegistryFault.{RegistryFault}
 use Rattle.rules.specs.declared.faults.RegistryFault.TheVariants.{OutOfRange as FieldOutOfRange, InUse}
 use Rattle.curves.specs.declared.levels.Method.{Method}
 use Rattle.curves.specs.Levels.{guarantees, method_at}
-use Rattle.rules.specs.declared.calls.Call.TheVariants.{Begin, Open, Certify, Rebalance, Offer as MakeOffer, Accept, Recall, Load, Close, Settle, Report}
-use Rattle.rules.specs.Year.{Year, is_open, account_in, entity_in, offer_in}
+use Rattle.rules.specs.declared.calls.Call.TheVariants.{Open, Certify, Rebalance}
+use Rattle.rules.specs.Year.{Year, is_open, entity_in}
 use Rattle.registers.specs.Rows.{inserted}
 use Rattle.rules.specs.declared.records.Entity.{Entity}
 use Rattle.rules.specs.Records.{entity_number}

@@ -1,6 +1,5 @@
 -- How a step is loaded.
-use Rattle.std.proofs.Common.{◌≡◌, ℕ, ◌+◌, ◌*◌, ◌≤◌, Bool, true, false, cond, ◌||◌, eqb, leb, List, [], ◌∷◌, ℤ, ◌+ℤ◌, nat_abs, Some, None, Ok, Err, Option, Result, sym, refl, ap, ◌∙◌, subst, add-mul, arith}
-use Rattle.std.specs.List.{AllByRecursion}
+use Rattle.std.proofs.Common.{◌≡◌, ℕ, ◌+◌, ◌*◌, ◌≤◌, Bool, true, false, cond, eqb, leb, List, ℤ, ◌+ℤ◌, nat_abs, Some, Ok, Err, Option, sym, refl, ap, ◌∙◌, subst, add-mul, arith}
 use Rattle.std.proofs.lemmas.Int.{ints}
 use Rattle.std.proofs.lemmas.Bool.{eqb-true, leb-true, and_parts}
 use Rattle.curves.specs.declared.obligations.Sort.{Sort}
@@ -16,11 +15,11 @@ use Rattle.rules.specs.declared.records.Account.{Account}
 use Rattle.rules.specs.declared.calls.Call.TheVariants.{Load}
 use Rattle.rules.specs.declared.calls.Reply.TheVariants.{Done}
 use Rattle.rules.specs.declared.faults.RegistryFault.{RegistryFault}
-use Rattle.rules.specs.declared.faults.RegistryFault.TheVariants.{NotOpen, OutOfTurn}
+use Rattle.rules.specs.declared.faults.RegistryFault.TheVariants.{OutOfTurn}
 use Rattle.rules.specs.Records.{account_number}
 use Rattle.rules.specs.Year.{Year, account_in}
 use Rattle.rules.specs.Facts.{grown_by, grown_in, with_accounts}
-use Rattle.rules.specs.Judgement.{Answer, judge, needs, fields, loading, steps_loaded}
+use Rattle.rules.specs.Judgement.{judge, needs, fields, loading, steps_loaded}
 use Rattle.rules.specs.Calls.{Called}
 use Rattle.accounts.specs.declared.loading.Addition.{Addition}
 use Rattle.accounts.specs.Additions.{addition_of}

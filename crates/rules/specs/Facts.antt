@@ -1,10 +1,9 @@
 -- What an accepted call did, as one fact, and what the fact changes: the year, the holdings, the posts left.
-use Rattle.std.specs.Prelude.{ℕ, ◌+◌, ◌-◌, cond, List, [], ◌∷◌, length, ℤ, pos, ◌+ℤ◌, Some, None, sum_by, Option, ◌==◌}
+use Rattle.std.specs.Prelude.{ℕ, ◌+◌, ◌-◌, cond, List, [], length, ℤ, pos, ◌+ℤ◌, Some, None, sum_by, Option, ◌==◌}
 use Rattle.registers.specs.Rows.{inserted, without, replaced}
 use Rattle.curves.specs.declared.obligations.Step.{Step}
 use Rattle.curves.specs.declared.obligations.Sort.{Sort}
 use Rattle.curves.specs.declared.obligations.Sort.TheVariants.{Profiled, Losses}
-use Rattle.curves.specs.declared.levels.Method.{Method}
 use Rattle.curves.specs.Levels.{guarantees, method_at}
 use Rattle.curves.specs.Obligations.{sort_at, step_adds}
 use Rattle.rules.specs.declared.records.Series.{Series}
@@ -12,7 +11,7 @@ use Rattle.rules.specs.declared.records.Account.{Account}
 use Rattle.rules.specs.declared.records.Entity.{Entity}
 use Rattle.rules.specs.declared.records.Offer.{Offer}
 use Rattle.rules.specs.declared.calls.Stage.{Stage}
-use Rattle.rules.specs.declared.calls.Stage.TheVariants.{Blank, Trading, Closed, Settled}
+use Rattle.rules.specs.declared.calls.Stage.TheVariants.{Trading, Closed, Settled}
 use Rattle.rules.specs.declared.calls.Call.{Call}
 use Rattle.rules.specs.declared.calls.Call.TheVariants.{Begin, Open, Certify, Rebalance, Offer as MakeOffer, Accept, Recall, Load, Close, Settle, Report}
 use Rattle.rules.specs.Records.{account_number, entity_number, offer_number}

@@ -1,9 +1,8 @@
 -- How each call is judged: the stage, then the ranges of its fields, then the rest in order. The first check that fails refuses.
-use Rattle.std.specs.Prelude.{ℕ, zero, suc, ◌+◌, ◌-◌, Bool, true, false, cond, not, ◌||◌, List, [], ◌∷◌, length, is_some, Some, None, Ok, Err, sum_by, Option, Result, ◌==◌, nat_le, nat_lt}
+use Rattle.std.specs.Prelude.{ℕ, zero, suc, ◌+◌, ◌-◌, Bool, cond, not, ◌||◌, List, [], ◌∷◌, length, is_some, Some, None, Ok, Err, sum_by, Option, Result, ◌==◌, nat_le, nat_lt}
 use Rattle.ledger.specs.declared.fault.LedgerFault.{LedgerFault}
 use Rattle.ledger.specs.declared.fault.LedgerFault.TheVariants.{PastLimit}
 use Rattle.ledger.specs.Rules.{limit, known, crediting, debiting}
-use Rattle.curves.specs.declared.obligations.Step.{Step}
 use Rattle.curves.specs.Ranges.{within}
 use Rattle.curves.specs.Levels.{guarantees, method_at, supply_fine}
 use Rattle.curves.specs.declared.obligations.Sort.{Sort}

@@ -1,5 +1,5 @@
 -- Obligations, gaps and the settlement, from the year and the holdings.
-use Rattle.std.specs.Prelude.{ℕ, ◌+◌, ◌-◌, Bool, cond, ◌&&◌, ◌||◌, List, [], ◌∷◌, map, ℤ, pos, ◌+ℤ◌, ◌-ℤ◌, Some, None, Option, nat_lt}
+use Rattle.std.specs.Prelude.{ℕ, Bool, cond, ◌&&◌, ◌||◌, List, [], ◌∷◌, map, ℤ, pos, ◌+ℤ◌, ◌-ℤ◌, Some, None, Option, nat_lt}
 use Rattle.curves.specs.Obligations.{obligation_in_guarantees}
 use Rattle.settlement.specs.Rules.{paid_price_of, amount}
 use Rattle.rules.specs.declared.records.Series.{Series}

@@ -5,8 +5,8 @@ use Rattle.rules.specs.declared.calls.Call.TheVariants.{Close}
 use Rattle.rules.specs.Year.{Year, blank_year}
 use Rattle.rules.specs.Judgement.{Answer}
 use Rattle.rules.specs.Calls.{Called}
-use Rattle.law.specs.Law.{Past, Law, Everywhere}
-use Rattle.law.specs.Told.{Told, event}
+use Rattle.law.specs.Law.{Past}
+use Rattle.law.specs.Told.{event}
 use Rattle.law.proofs.Telling.{told_at_first, lawful_next}
 use Rattle.law.proofs.Lawful.{lawful}
 use Rattle.runs.specs.declared.Outcome.{Outcome}

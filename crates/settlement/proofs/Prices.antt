@@ -1,5 +1,5 @@
 -- The paid price is the one fair price.
-use Rattle.std.proofs.Common.{◌≡◌, ℕ, ◌+◌, ◌*◌, ◌/◌, ◌<◌, ◌≤◌, min, cond, eqb, List, ℤ, ⊎_elim, mul-le-mul_left, arith}
+use Rattle.std.proofs.Common.{◌≡◌, ℕ, ◌+◌, ◌*◌, ◌/◌, ◌<◌, ◌≤◌, min, eqb, List, ℤ, ⊎_elim, mul-le-mul_left, arith}
 use native.Mathlib.Nat.{mul-div-le, lt-mul-div-succ}
 use Rattle.std.proofs.lemmas.Bool.{cond_both, eqb-true, eqb-false, cases_order}
 use Rattle.settlement.specs.Rules.{total_surplus_of, collected, price_within, paid_price_of, Fair}

@@ -1,11 +1,11 @@
 -- The lists behind a sheet's figures.
-use Rattle.std.proofs.Common.{◌≡◌, ℕ, ◌+◌, ◌*◌, ◌≤◌, true, leb, List, [], ◌∷◌, ◌++◌, ℤ, arith}
+use Rattle.std.proofs.Common.{ℕ, ◌+◌, ◌*◌, ◌≤◌, leb, List, [], ◌∷◌, ◌++◌, ℤ, arith}
 use mathlib.Core.Logic.{∥∥₁_map}
 use Rattle.std.proofs.ByRecursion.{All-push}
 use Rattle.std.proofs.lemmas.List.{length_push}
 use Rattle.std.proofs.lemmas.List.Sums.{sum_by_push}
 use Rattle.std.proofs.lemmas.Bool.{and_parts, leb-true}
-use Rattle.settlement.specs.Rules.{widest_shortage, widest_surplus, gap_fine, shortage, surplus, price_within}
+use Rattle.settlement.specs.Rules.{widest_shortage, widest_surplus, shortage, surplus, price_within}
 use Rattle.settlement.specs.Tallies.{Fine, Tally, Tallied, Due, Ended}
 
 pub fine_shortage : (gap : ℤ) → Fine gap → shortage gap ≤ widest_shortage

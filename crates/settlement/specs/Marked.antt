@@ -1,5 +1,5 @@
 -- A settlement worked out by hand.
-use Rattle.std.specs.Prelude.{◌≡◌, ℕ, List, [], ◌∷◌, ℤ, pos, negsuc}
+use Rattle.std.specs.Prelude.{◌≡◌, List, [], ◌∷◌, ℤ, pos, negsuc}
 use Rattle.settlement.specs.Rules.{collected, paid_price_of, paid, balance, amounts}
 
 -- A gap of 46 and one of -16.

@@ -1,5 +1,5 @@
 -- What a sheet and a paying sheet stand for, and how their calls answer.
-use Rattle.std.specs.Prelude.{◌≡◌, ℕ, ◌+◌, ◌-◌, Bool, cond, ◌&&◌, List, [], ◌∷◌, ◌++◌, length, ℤ, Some, None, Option, Result, nat_le, nat_lt}
+use Rattle.std.specs.Prelude.{◌≡◌, ℕ, ◌+◌, ◌-◌, cond, List, [], ◌∷◌, ◌++◌, length, ℤ, Some, None, Option, Result, nat_le, nat_lt}
 use Rattle.settlement.specs.declared.fault.SheetFault.{SheetFault}
 use Rattle.settlement.specs.declared.fault.SheetFault.TheVariants.{PriceOutOfRange, GapOutOfRange, Full, NotLeft}
 use Rattle.settlement.specs.declared.sheet.Sheet.{Sheet}

@@ -1,5 +1,4 @@
-use Rattle.std.proofs.Common.{◌≡◌, drop, sum_by}
-use Rattle.rules.specs.Records.{offered_amount}
+use Rattle.std.proofs.Common.{◌≡◌, drop}
 use Rattle.rules.specs.Judgement.{first_without_room}
 use Rattle.postings.proofs.first_without_room.Given as goal
 

@@ -1,4 +1,3 @@
-use Rattle.std.proofs.Common.{sym, arith}
 use Rattle.postings.proofs.Returns.{returned_none, returned_next, returned_all}
 use Rattle.postings.proofs.give_back.Goals as goal
 

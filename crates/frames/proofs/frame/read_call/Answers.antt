@@ -1,6 +1,4 @@
-use Rattle.std.proofs.Common.{◌≡◌, ℕ, ◌-◌, List, take, ap, ◌∙◌, arith}
 use native.Mathlib.Nat.{sub-zero}
-use Rattle.frames.specs.Frames.{call_of}
 use Rattle.frames.proofs.Readings.{heard_frame}
 use Rattle.frames.proofs.frame.read_call.Goals as goal
 

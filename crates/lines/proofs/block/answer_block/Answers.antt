@@ -1,7 +1,6 @@
-use Rattle.std.proofs.Common.{◌≡◌, ℕ, ◌≤◌, List, length, take, drop, sym, refl, ap, ◌∙◌, subst, arith}
-use Rattle.std.proofs.lemmas.List.{take_all}
+use Rattle.std.proofs.Common.{ℕ, List, sym, refl, ap, ◌∙◌, subst, arith}
 use Rattle.registry.specs.Model.{year_in}
-use Rattle.lines.specs.Blocks.{State, Answered, pending}
+use Rattle.lines.specs.Blocks.{pending}
 use Rattle.lines.proofs.Answering.{UpTo, at_first, up_to_byte, up_to_line, was_read, was_refused, same_state, same_parts, moved_to, up_to_end}
 use Rattle.lines.proofs.block.answer_block.Goals as goal
 use Rattle.lines.proofs.block.answer_block.Goals.{then-byte-eq-LINE_END+in-Ok, else-byte-eq-LINE_END}

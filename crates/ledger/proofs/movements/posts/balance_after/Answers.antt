@@ -1,4 +1,4 @@
-use Rattle.std.proofs.Common.{◌≡◌, ap, ◌∙◌, take_all}
+use Rattle.std.proofs.Common.{ap, ◌∙◌, take_all}
 use Rattle.ledger.specs.Holdings.{moved}
 use Rattle.ledger.proofs.Moves.{moved_more}
 use Rattle.ledger.proofs.movements.posts.balance_after.Goals as goal

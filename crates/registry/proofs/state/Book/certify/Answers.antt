@@ -1,10 +1,8 @@
-use Rattle.std.proofs.Common.{◌≡◌, ℕ, ◌<◌, List, length, sym, refl, ap, ◌∙◌, arith}
+use Rattle.std.proofs.Common.{◌<◌, length, sym, ◌∙◌, arith}
 use Rattle.std.proofs.lemmas.Result.{err_from_is_err_and}
 use Rattle.registers.specs.Held.{rows, room}
-use Rattle.rules.specs.declared.records.Entity.{Entity}
 use Rattle.rules.specs.declared.calls.Call.TheVariants.{Certify}
 use Rattle.rules.specs.Records.{entity_number}
-use Rattle.rules.specs.Judgement.{Answer, judge, levelling}
 use Rattle.registry.specs.Model.{year_in}
 use Rattle.registry.proofs.Calling.{refused, certify_judged, certify_called}
 use Rattle.registry.proofs.Keeping.{taken_in}

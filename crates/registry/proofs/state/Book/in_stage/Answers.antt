@@ -1,4 +1,4 @@
-use Rattle.std.proofs.Common.{◌≡◌, sym, subst}
+use Rattle.std.proofs.Common.{sym, subst}
 use Rattle.rules.specs.declared.calls.Call.{Call}
 use Rattle.rules.specs.Calls.{Called}
 use Rattle.registry.specs.Model.{year_in}

@@ -1,4 +1,4 @@
-use Rattle.std.proofs.Common.{◌≡◌, ℕ, ◌≤◌, Some, None, sym, refl, ap, ◌∙◌, arith}
+use Rattle.std.proofs.Common.{Some, None, sym, refl, ◌∙◌, arith}
 use mathlib.Core.Logic.{∥∥₁_map, ∥∥₁_elim}
 use native.Mathlib.Bridge.{le_prop}
 use Rattle.std.proofs.lemmas.Result.{err_from_is_err_and}
@@ -6,7 +6,7 @@ use Rattle.registers.specs.Held.{rows}
 use Rattle.rules.specs.declared.calls.Call.TheVariants.{Load}
 use Rattle.rules.specs.declared.faults.RegistryFault.TheVariants.{NotOpen, OutOfRange}
 use Rattle.accounts.specs.Additions.{addition_of}
-use Rattle.accounts.specs.Bounds.{Kept, Bounded}
+use Rattle.accounts.specs.Bounds.{Kept}
 use Rattle.registry.specs.Model.{year_in}
 use Rattle.registry.proofs.Calling.{refused, judged_by_field}
 use Rattle.registry.proofs.Keeping.{half_hours_most}

@@ -1,4 +1,4 @@
-use Rattle.std.proofs.Common.{◌≡◌, ℕ, List, Some, sym, ap, ◌∙◌, subst}
+use Rattle.std.proofs.Common.{◌≡◌, List, Some, sym, subst}
 use Rattle.registers.specs.Held.{rows}
 use Rattle.registers.specs.Rows.{lookup}
 use Rattle.rules.specs.declared.records.Account.{Account}

@@ -1,4 +1,4 @@
-use Rattle.std.proofs.Common.{◌≡◌, List, [], ◌∷◌, sym, ap, subst, arith}
+use Rattle.std.proofs.Common.{List, [], ◌∷◌, sym, subst}
 use Rattle.std.proofs.lemmas.Bool.{leb-true}
 use Rattle.settlement.specs.Rules.{highest_price}
 use Rattle.curves.proofs.Judging.{fine_if_accepted}
