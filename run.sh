@@ -3,9 +3,9 @@
 #   ./run.sh [FILE]
 set -eu
 root=$(cd "$(dirname "$0")" && pwd)
-book=$root/target/bin/book
+book=$root/crates/book/out/book
 if [ ! -x "$book" ]; then
-    (cd "$root" && rt check book) >&2
+    (cd "$root/crates/book" && rt run </dev/null) >&2
 fi
 if [ $# -gt 0 ]; then
     exec "$book" <"$1"

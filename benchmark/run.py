@@ -3,7 +3,7 @@
 
     run.py [LINES]
 
-Prints the processor time and the peak memory of each, and the ratio of the times. It wants target/bin/book (./run.sh
+Prints the processor time and the peak memory of each, and the ratio of the times. It wants crates/book/out/book (./run.sh
 builds it) and a C compiler, `cc`.
 """
 
@@ -53,7 +53,7 @@ with tempfile.TemporaryDirectory() as work:
     with open(lines, "wb") as sink:
         generator = os.path.join(ROOT, "independent", "generate.py")
         subprocess.run([sys.executable, "-B", generator, "--lines", LINES, "7"], stdout=sink, check=True)
-    programs = {"book": os.path.join(ROOT, "target", "bin", "book"), "plain": plain}
+    programs = {"book": os.path.join(ROOT, "crates", "book", "out", "book"), "plain": plain}
     best = {}
     for _ in range(TURNS):
         for name, program in programs.items():

@@ -5,14 +5,9 @@ set -eu
 root=$(cd "$(dirname "$0")/.." && pwd)
 work=$(mktemp -d)
 trap 'rm -rf "$work"' EXIT
-mkdir -p "$work/crates"
-cp -R "$root/crates/settlement" "$work/crates/settlement"
-# What is proved already is not proved again.
-for made in rlib/settlement.rlib stamp/settlement; do
-    if [ -e "$root/target/$made" ]; then
-        mkdir -p "$work/target/${made%/*}"
-        cp -R "$root/target/$made" "$work/target/$made"
-    fi
+mkdir -p "$work/crates/settlement"
+for part in src specs proofs; do
+    cp -R "$root/crates/settlement/$part" "$work/crates/settlement/$part"
 done
 failed=0
 
@@ -21,7 +16,7 @@ checked() {
     mkdir -p "$work/crates/$1/src"
     { printf 'use settlement::fault::SheetFault;\nuse settlement::sheet::Sheet;\n\n'; cat; } >"$work/crates/$1/src/lib.rt"
     printf 'settlement:\n%s: settlement\n' "$1" >"$work/crates.txt"
-    (cd "$work" && rt check "$1") >"$work/out" 2>&1
+    (cd "$work/crates/$1" && rt check) >"$work/out" 2>&1
 }
 
 wrong() {
