@@ -14,7 +14,7 @@ no_outcome = record { shown = 0; answer = Ok Done }
 -- The first n calls with their outcomes, the latest first.
 abbrev pub history : ℕ → List Call → List Outcome → Past
 history zero calls outcomes = []
-history (suc n) calls outcomes = event (get_or outcomes n no_outcome).shown (slice_index_or calls n Close) (get_or outcomes n no_outcome).answer ∷ history n calls outcomes
+history (suc n) calls outcomes = event (slice_index_or outcomes n no_outcome).shown (slice_index_or calls n Close) (slice_index_or outcomes n no_outcome).answer ∷ history n calls outcomes
 
 -- The year, the holdings and the posts left are those of the history, and the law holds at it and at every history it grew from.
 pub record Ran (start : ℕ → ℕ) (p : Past) (y : Year) (f : ℕ → ℕ) (m : ℕ) : Type 0 where
