@@ -1,6 +1,6 @@
 -- The obligation of an account, and the gaps of all of them.
 use Rattle.std.proofs.Common.{◌≡◌, ℕ, suc, ◌+◌, ◌*◌, ◌<◌, ◌≤◌, List, [], ◌∷◌, ◌++◌, map, length, get_or, take, ℤ, pos, ◌-ℤ◌, nat_abs, Some, Ok, sym, ap, ◌∙◌, ⊎_elim, arith}
-use Rattle.std.specs.List.{ContainsAt as Has}
+use Rattle.std.specs.List.{ContainsAt}
 use Rattle.std.proofs.lemmas.List.{length-map, length-take-le, map_more}
 use Rattle.std.proofs.lemmas.Bool.{le-leb}
 use Rattle.registers.specs.Rows.{lookup}
@@ -36,13 +36,13 @@ module _ (n security : ℕ) (f : ℕ → ℕ) (accounts : List Account) where
       ∙ ap (λ (z : ℤ). gaps_of n security f (take i accounts) ++ z ∷ []) is
       ∙ sym (map_more (gap_of n security f) accounts i d within)
 
-has_member : {X Y : Type 0} (f : X → Y) (xs : List X) (x : X) → Member x xs → Has (map f xs) (f x)
+has_member : {X Y : Type 0} (f : X → Y) (xs : List X) (x : X) → Member x xs → ContainsAt (map f xs) (f x)
 has_member f [] x member = absurd member
 has_member f (y ∷ ys) x member =
     ⊎_elim (λ e. (0, omega arith, λ d. ap f (sym e))) (λ later. let has = has_member f ys x later in (suc has.0, omega (arith, has.1), has.2)) member
 
 -- the gap of an account that is found is among the gaps
-pub gap_among : (n security : ℕ) (f : ℕ → ℕ) (accounts : List Account) (a : Account) → lookup account_number a.number accounts ≡ Some a → Has (gaps_of n security f accounts) (gap_of n security f a)
+pub gap_among : (n security : ℕ) (f : ℕ → ℕ) (accounts : List Account) (a : Account) → lookup account_number a.number accounts ≡ Some a → ContainsAt (gaps_of n security f accounts) (gap_of n security f a)
 gap_among n security f accounts a found = has_member (gap_of n security f) accounts a (lookup_has account_number a.number accounts a found).0
 
 pub gap_from : (n security : ℕ) (f : ℕ → ℕ) (a : Account) (holding obligation : ℕ) (gap : ℤ) → holding ≡ f a.number → obligation ≡ obligation_of n security a → gap ≡ pos holding -ℤ pos obligation → gap ≡ gap_of n security f a

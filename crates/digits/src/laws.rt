@@ -2,9 +2,9 @@
 ghost use Rattle.digits.specs.Laws.{Sixteen, ReadBack, WrittenBack, FieldBack, SignedBack, BytesBack};
 
 pub fn lines_turn_back()
-    ensures { (Sixteen) × ((ReadBack) × (WrittenBack)) }
+    ensures { Sixteen × (ReadBack × WrittenBack) }
 {}
 
 pub fn numbers_turn_back()
-    ensures { (FieldBack) × ((SignedBack) × (BytesBack)) }
+    ensures { FieldBack × (SignedBack × BytesBack) }
 {}

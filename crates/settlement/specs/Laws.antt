@@ -1,6 +1,6 @@
 -- What holds of every settlement.
 use Rattle.std.specs.Prelude.{◌≡◌, ℕ, ◌+◌, ◌≤◌, List, [], ◌∷◌, map, ℤ, pos, ◌+ℤ◌, Ok, Err, sum_by, Result}
-use Rattle.std.specs.List.{ContainsAt as Has}
+use Rattle.std.specs.List.{ContainsAt}
 use Rattle.std.specs.List.Sorted.{IsPermutation}
 use Rattle.settlement.specs.declared.fault.SheetFault.{SheetFault}
 use Rattle.settlement.specs.Rules.{surplus, total_surplus_of, collected, paid_price_of, paid, balance, amount, amounts, total_amount, Fair}
@@ -35,7 +35,7 @@ pub record Lawful (shortage_price surplus_price : ℕ) (gaps : List ℤ) : Type 
   -- Any gap that was entered is paid its amount from a fresh paying sheet.
   pub each_paid :
       AllFine gaps
-      → (gap : ℤ) → Has gaps gap
+      → (gap : ℤ) → ContainsAt gaps gap
       → paying shortage_price surplus_price gaps (total_surplus_of gaps) gap ≡ due_answer shortage_price surplus_price gaps gap
   -- All gaps that were entered are paid their amounts one after another, in any order.
   pub all_paid :
