@@ -1,5 +1,5 @@
 -- The history of a run, and what holds of it.
-use Rattle.std.specs.Prelude.{ℕ, zero, suc, List, [], ◌∷◌, get_or, Ok, slice_index_or}
+use Rattle.std.specs.Prelude.{ℕ, zero, suc, List, [], ◌∷◌, Ok, slice_index_or}
 use Rattle.rules.specs.declared.calls.Call.{Call}
 use Rattle.rules.specs.declared.calls.Call.TheVariants.{Close}
 use Rattle.rules.specs.declared.calls.Reply.TheVariants.{Done}
