@@ -5,17 +5,18 @@ set -eu
 root=$(cd "$(dirname "$0")/.." && pwd)
 work=$(mktemp -d)
 trap 'rm -rf "$work"' EXIT
-mkdir -p "$work/crates/settlement"
+mkdir -p "$work/crates/settlement" "$work/crates/refusals"
 for part in src specs proofs; do
     cp -R "$root/crates/settlement/$part" "$work/crates/settlement/$part"
 done
+cp -R "$root/crates/refusals/src" "$work/crates/refusals/src"
 failed=0
 
 # Checks a crate NAME whose code stands on standard input.
 checked() {
     mkdir -p "$work/crates/$1/src"
     { printf 'use settlement::fault::SheetFault;\nuse settlement::sheet::Sheet;\n\n'; cat; } >"$work/crates/$1/src/lib.rt"
-    printf 'settlement:\n%s: settlement\n' "$1" >"$work/crates.txt"
+    printf 'refusals:\nsettlement: refusals\n%s: settlement\n' "$1" >"$work/crates.txt"
     (cd "$work/crates/$1" && rt check) >"$work/out" 2>&1
 }
 

@@ -18,7 +18,3 @@ Sound n a = (1 ≤ a.number) × (a.number ≤ 64) × Bounded n a.profiled × Bou
 -- Accounts of a year of n half-hours: numbers from 1 to 64, rising, with bounded series.
 abbrev pub Kept : ℕ → List Account → Type 0
 Kept n accounts = Numbered account_number 64 accounts × AllByRecursion (λ a. Bounded n a.profiled × Bounded n a.losses) accounts
-
--- The terms of a year: n from 1 to 400, the security coefficient to 2,000.
-abbrev pub Terms : ℕ → ℕ → Type 0
-Terms n security = (1 ≤ n) × (n ≤ 400) × (security ≤ 2000)

@@ -3,7 +3,9 @@
 #![tactic(auto)]
 
 pub mod loading;
+pub mod open;
 pub mod settling;
 
 pub use loading::{Addition, load_in_range, with_step};
-pub use settling::{Prices, YearTerms, first_incomplete, settlement, statement};
+pub use open::OpenAccounts;
+pub use settling::first_incomplete;

@@ -3,30 +3,17 @@ ghost use Rattle.std.specs.Prelude.{◌≡◌, ◌*◌, ◌≤◌, true, pos, �
 ghost use Rattle.ledger.specs.Rules.{limit};
 ghost use Rattle.registers.specs.Rows.{lookup};
 ghost use Rattle.curves.specs.Obligations.{most_added};
-ghost use Rattle.settlement.specs.Rules.{highest_price, widest_shortage, gap_fine, total_surplus_of};
+ghost use Rattle.settlement.specs.Rules.{widest_shortage, gap_fine, total_surplus_of};
 ghost use Rattle.settlement.specs.Sheets.{Pays};
 ghost use Rattle.rules.specs.Records.{account_number};
 ghost use Rattle.rules.specs.Settling.{begun_not_complete, is_incomplete, first_incomplete, obligation_of, gap_of, gaps_of, settlement_of, statement_of};
-ghost use Rattle.accounts.specs.Bounds.{Bounded, Sound, Kept, Terms};
+ghost use Rattle.accounts.specs.Bounds.{Bounded, Sound};
 
-use curves::obligation;
+use crate::open::OpenAccounts;
+use curves::YearTerms;
 use ledger::Ledger;
 use rules::{Account, Series, Settlement, Statement};
-use settlement::sheet::{PayingSheet, Sheet};
-
-// The half-hours of the year, and its security coefficient in thousandths.
-#[derive(Clone, Copy)]
-pub struct YearTerms {
-    pub n: u16,
-    pub security: u16,
-}
-
-// What a guarantee of shortage owes and one of surplus may receive, in cents.
-#[derive(Clone, Copy)]
-pub struct Prices {
-    pub shortage: u32,
-    pub surplus: u32,
-}
+use settlement::sheet::{PayingSheet, Prices, Sheet};
 
 // The first account with a series begun and not complete.
 pub fn first_incomplete(accounts: &[Account], n: u16) -> Option<u8>
@@ -40,72 +27,48 @@ pub fn first_incomplete(accounts: &[Account], n: u16) -> Option<u8>
     None
 }
 
-// The figures of the year (5.6).
-pub fn settlement<L: Ledger>(
-    ledger: &L,
-    accounts: &[Account],
-    terms: YearTerms,
-    prices: Prices,
-) -> Settlement
-    requires kept { ∥ Kept terms.n accounts.now ∥₁ }
-    requires terms { Terms terms.n terms.security }
-    requires prices { (prices.shortage ≤ highest_price) × (prices.surplus ≤ highest_price) }
-    ensures { result ≡ settlement_of prices.shortage prices.surplus (gaps_of terms.n terms.security (L.Ledger.holding ledger.now) accounts.now) }
-{
-    paying_sheet(ledger, accounts, terms, prices).figures()
-}
-
-// What an account is told of the settlement: the sheet is made again, so that nothing is used up.
-pub fn statement<L: Ledger>(
-    ledger: &L,
-    accounts: &[Account],
-    account: Account,
-    terms: YearTerms,
-    prices: Prices,
-) -> Statement
-    requires kept { ∥ Kept terms.n accounts.now ∥₁ }
-    requires terms { Terms terms.n terms.security }
-    requires prices { (prices.shortage ≤ highest_price) × (prices.surplus ≤ highest_price) }
-    requires found { lookup account_number account.number accounts.now ≡ Some account }
-    ensures { result ≡ statement_of terms.n terms.security prices.shortage prices.surplus (L.Ledger.holding ledger.now) accounts.now account }
-{
-    let mut paying = paying_sheet(ledger, accounts, terms, prices);
-    let holding = holding_of(ledger, account.number);
-    let obligation = obligation_of(account, terms);
-    let gap = gap(holding, obligation);
-    let amount = paying.pay(gap).unwrap();
-    Statement {
-        holding,
-        obligation,
-        gap: gap as i32,
-        amount,
+impl OpenAccounts<'_> {
+    // The figures of the year (5.6).
+    pub fn settlement<L: Ledger>(&self, ledger: &L, prices: Prices) -> Settlement
+        ensures { result ≡ settlement_of prices.shortage prices.surplus (gaps_of self.now.terms.n self.now.terms.security (L.Ledger.holding ledger.now) self.now.accounts.now) }
+    {
+        self.paying_sheet(ledger, prices).figures()
     }
-}
 
-// The ended sheet of the gaps of all accounts, with nothing paid.
-fn paying_sheet<L: Ledger>(
-    ledger: &L,
-    accounts: &[Account],
-    terms: YearTerms,
-    prices: Prices,
-) -> PayingSheet
-    requires kept { ∥ Kept terms.n accounts.now ∥₁ }
-    requires terms { Terms terms.n terms.security }
-    requires prices { (prices.shortage ≤ highest_price) × (prices.surplus ≤ highest_price) }
-    ensures { Pays result prices.shortage prices.surplus (gaps_of terms.n terms.security (L.Ledger.holding ledger.now) accounts.now) (total_surplus_of (gaps_of terms.n terms.security (L.Ledger.holding ledger.now) accounts.now)) }
-{
-    let mut sheet = Sheet::start(prices.shortage, prices.surplus).unwrap();
-    for account in accounts {
-        sheet.enter(gap_of(ledger, *account, terms)).unwrap();
+    // What an account is told of the settlement: the sheet is made again, so that nothing is used up.
+    pub fn statement<L: Ledger>(&self, ledger: &L, account: Account, prices: Prices) -> Statement
+        requires { lookup account_number account.number self.now.accounts.now ≡ Some account }
+        ensures { result ≡ statement_of self.now.terms.n self.now.terms.security prices.shortage prices.surplus (L.Ledger.holding ledger.now) self.now.accounts.now account }
+    {
+        let mut paying = self.paying_sheet(ledger, prices);
+        let holding = holding_of(ledger, account.number);
+        let obligation = obligation_of(account, self.terms);
+        let gap = gap(holding, obligation);
+        let amount = paying.pay(gap).unwrap();
+        Statement {
+            holding,
+            obligation,
+            gap: gap as i32,
+            amount,
+        }
     }
-    let (paying, _) = sheet.end();
-    paying
+
+    // The ended sheet of the gaps of all accounts, with nothing paid.
+    fn paying_sheet<L: Ledger>(&self, ledger: &L, prices: Prices) -> PayingSheet
+        ensures { Pays result prices.shortage prices.surplus (gaps_of self.now.terms.n self.now.terms.security (L.Ledger.holding ledger.now) self.now.accounts.now) (total_surplus_of (gaps_of self.now.terms.n self.now.terms.security (L.Ledger.holding ledger.now) self.now.accounts.now)) }
+    {
+        let mut sheet = Sheet::at(prices);
+        for account in self.accounts {
+            sheet.enter(gap_of(ledger, *account, self.terms)).unwrap();
+        }
+        let (paying, _) = sheet.end();
+        paying
+    }
 }
 
 // Holding less obligation (5.6.1.1).
 fn gap_of<L: Ledger>(ledger: &L, account: Account, terms: YearTerms) -> i64
-    requires sound { Sound terms.n account }
-    requires terms { Terms terms.n terms.security }
+    requires { Sound terms.n account }
     ensures answer { result ≡ gap_of terms.n terms.security (L.Ledger.holding ledger.now) account }
     ensures bound { gap_fine result ≡ true }
 {
@@ -117,7 +80,8 @@ fn gap_of<L: Ledger>(ledger: &L, account: Account, terms: YearTerms) -> i64
 
 // What an account holds.
 fn holding_of<L: Ledger>(ledger: &L, account: u8) -> u32
-    requires { (1 ≤ account) × (account ≤ 64) }
+    requires first { 1 ≤ account }
+    requires last { account ≤ 64 }
     ensures answer { result ≡ L.Ledger.holding ledger.now account }
     ensures bound { result ≤ limit }
 {
@@ -126,18 +90,18 @@ fn holding_of<L: Ledger>(ledger: &L, account: u8) -> u32
 
 // The obligation of an account, from both its series (5.2.1.2).
 fn obligation_of(account: Account, terms: YearTerms) -> u32
-    requires sound { Sound terms.n account }
-    requires terms { Terms terms.n terms.security }
+    requires { Sound terms.n account }
     ensures answer { result ≡ obligation_of terms.n terms.security account }
     ensures bound { result ≤ widest_shortage }
 {
-    let sum = both(account.profiled, account.losses, terms.n);
-    obligation(terms.n, terms.security, sum).unwrap() as u32
+    terms.obligation(both(account.profiled, account.losses, terms.n)) as u32
 }
 
 // The sum of both series.
 fn both(profiled: Series, losses: Series, n: u16) -> i64
-    requires { (Bounded n profiled) × ((Bounded n losses) × (n ≤ 400)) }
+    requires profiled { Bounded n profiled }
+    requires losses { Bounded n losses }
+    requires short { n ≤ 400 }
     ensures answer { result ≡ profiled.sum +ℤ losses.sum }
     ensures bound { unsigned_abs result ≤ n * (2 * most_added) }
 {
@@ -146,7 +110,8 @@ fn both(profiled: Series, losses: Series, n: u16) -> i64
 
 // Holding less obligation, in guarantees.
 fn gap(holding: u32, obligation: u32) -> i64
-    requires { (holding ≤ limit) × (obligation ≤ widest_shortage) }
+    requires held { holding ≤ limit }
+    requires owed { obligation ≤ widest_shortage }
     ensures answer { result ≡ pos holding -ℤ pos obligation }
     ensures bound { gap_fine result ≡ true }
 {

@@ -1,19 +1,16 @@
 -- No coefficient is above 100 percent, so a level is never above 1,000,000.
-use Rattle.std.proofs.Common.{◌≡◌, ℕ, zero, suc, ◌+◌, ◌-◌, ◌*◌, ◌/◌, ◌%◌, ◌≤◌, List, [], ◌∷◌, get_or, refl, arith}
+use Rattle.std.proofs.Common.{ℕ, zero, suc, ◌+◌, ◌-◌, ◌*◌, ◌/◌, ◌%◌, ◌≤◌, List, [], ◌∷◌, get_or, arith}
 use Rattle.std.proofs.lemmas.Nat.{mul-le}
+use Rattle.std.specs.List.{AllByRecursion}
 use Rattle.curves.specs.declared.levels.Method.{Method}
 use Rattle.curves.specs.declared.levels.Method.TheVariants.{Dispatchable, Hydraulic, Wind, Solar}
+use Rattle.curves.specs.declared.levels.Supply.{Supply}
 use Rattle.curves.specs.Rounding.{by_digit}
 use Rattle.curves.specs.Coefficients.{half_hours_of, kh_after, kh_of, kh_table, kj_of, kj_table, tenths_of_days}
 use Rattle.curves.specs.Levels.{guarantees, shares}
 use Rattle.curves.proofs.Decimals.{at_most, by_tenths}
 
--- each of a list is at most m
-abbrev Most : ℕ → List ℕ → Type 0
-Most m [] = Unit {0}
-Most m (x ∷ xs) = (x ≤ m) × Most m xs
-
-get_or_most : (m : ℕ) (xs : List ℕ) (i : ℕ) → Most m xs → get_or xs i 0 ≤ m
+get_or_most : (m : ℕ) (xs : List ℕ) (i : ℕ) → AllByRecursion (λ x. x ≤ m) xs → get_or xs i 0 ≤ m
 get_or_most m [] i h = omega arith
 get_or_most m (x ∷ xs) zero h = h.0
 get_or_most m (x ∷ xs) (suc i) h = get_or_most m xs i h.1
@@ -35,17 +32,16 @@ kh_most days = after (tenths_of_days days / 10) (tenths_of_days days % 10) (omeg
         tenth_most (get_or kh_table day 0 * (10 - t) + get_or kh_table (day + 1) 0 * t)
         (on_the_line (get_or kh_table day 0) (get_or kh_table (day + 1) 0) t (get_or_most 100 kh_table day (omega arith)) (get_or_most 100 kh_table (day + 1) (omega arith)) h)
 
-pub shares_most : (method : Method) (hours days : ℕ) → shares method hours days ≤ 10000
-shares_most Dispatchable hours days = mul-le (kj_of hours) (kh_of days) 100 100 (kj_most hours) (kh_most days)
-shares_most Hydraulic hours days = omega arith
-shares_most Wind hours days = omega arith
-shares_most Solar hours days = omega arith
+pub shares_most : (method : Method) (supply : Supply) → shares method supply ≤ 10000
+shares_most Dispatchable supply = mul-le (kj_of supply.hours) (kh_of supply.days) 100 100 (kj_most supply.hours) (kh_most supply.days)
+shares_most Hydraulic supply = omega arith
+shares_most Wind supply = omega arith
+shares_most Solar supply = omega arith
 
-pub counted_most : (method : Method) (power share hours days most : ℕ) → power ≤ most → share ≡ shares method hours days → power * share ≤ most * 10000
-counted_most method power share hours days most h e =
-    mul-le power share most 10000 h (omega (arith, shares_most method hours days))
+pub counted_most : (method : Method) (supply : Supply) (most : ℕ) → supply.power ≤ most → supply.power * shares method supply ≤ most * 10000
+counted_most method supply most h = mul-le supply.power (shares method supply) most 10000 h (shares_most method supply)
 
-pub guarantees_most : (method : Method) (power hours days : ℕ) → power ≤ 99999999 → guarantees method power hours days ≤ 1000000
+pub guarantees_most : (method : Method) (supply : Supply) → supply.power ≤ 99999999 → guarantees method supply ≤ 1000000
 unfolding guarantees
-guarantees_most method power hours days h =
-    omega (arith, at_most (power * shares method hours days) 1000000, counted_most method power (shares method hours days) hours days 99999999 h refl)
+guarantees_most method supply h =
+    omega (arith, at_most (supply.power * shares method supply) 1000000, counted_most method supply 99999999 h)

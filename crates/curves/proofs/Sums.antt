@@ -1,5 +1,5 @@
 -- What a step adds, a series' sum and its obligation stay small.
-use Rattle.std.proofs.Common.{◌≡◌, ℕ, ◌+◌, ◌*◌, ◌≤◌, List, [], ◌∷◌, ◌++◌, length, ℤ, pos, negsuc, ◌+ℤ◌, ◌-ℤ◌, ◌*ℤ◌, nat_abs, refl, suc-mul, arith}
+use Rattle.std.proofs.Common.{◌≡◌, ℕ, ◌+◌, ◌*◌, ◌≤◌, List, [], ◌∷◌, ◌++◌, length, ℤ, pos, negsuc, ◌+ℤ◌, ◌-ℤ◌, ◌*ℤ◌, nat_abs, Ok, refl, suc-mul, arith}
 use native.Mathlib.Nat.{div-le_of_le-mul}
 use Rattle.std.proofs.lemmas.Nat.{mul-le}
 use Rattle.std.proofs.lemmas.Int.{ints}
@@ -8,32 +8,33 @@ use Rattle.std.specs.List.{AllByRecursion}
 use Rattle.curves.specs.declared.obligations.Sort.{Sort}
 use Rattle.curves.specs.declared.obligations.Sort.TheVariants.{Profiled, Losses}
 use Rattle.curves.specs.declared.obligations.Step.{Step}
-use Rattle.curves.specs.Obligations.{added_as, most_added, not_negative, obligation_in_guarantees, readings_fine, reference_power, sort_at, step_adds, step_fine, total_added}
+use Rattle.curves.specs.Obligations.{added_as, most_added, not_negative, losses, obligation_in_guarantees, profiled, readings_fine, readings_judged, reference_power, sort_at, step_adds, step_fine, total_added}
 use Rattle.curves.proofs.Decimals.{at_most}
-use Rattle.curves.proofs.Judging.{AllFine}
+use Rattle.curves.proofs.Judging.{AllFine, fine_if_accepted}
 use Rattle.curves.proofs.Products.{products_most}
 
-degrees_most : (from to : ℤ) → nat_abs from ≤ 5000 → nat_abs to ≤ 5000 → nat_abs (to -ℤ from) ≤ 10000
-degrees_most from to h i = omega (arith, ints)
-
-raised_most : (power : ℕ) (warmth : ℤ) → power ≤ 2 * 99999999 → nat_abs warmth ≤ 9999999 * 9999 * 10000 → nat_abs (pos (100000 * power) +ℤ warmth) ≤ most_added
-raised_most power warmth h i = omega (arith, ints)
+-- a power with what the degrees add to it
+raised_most : (power coefficient : ℕ) (gradient from to : ℤ) → power ≤ 2 * 99999999 → nat_abs gradient ≤ 9999999 → coefficient ≤ 9999 → nat_abs from ≤ 5000 → nat_abs to ≤ 5000
+    → nat_abs (pos (100000 * power) +ℤ gradient *ℤ pos coefficient *ℤ (to -ℤ from)) ≤ most_added
+raised_most power coefficient gradient from to p g c f t =
+    let degrees : nat_abs (to -ℤ from) ≤ 10000 = omega (arith, ints) in
+    omega (arith, ints, products_most gradient (pos coefficient) (to -ℤ from) 9999999 9999 10000 g c degrees)
 
 added_as_most : (sort : Sort) (s : Step) → AllFine (readings_fine sort s) → nat_abs (added_as sort s) ≤ most_added
 added_as_most Profiled s h =
-    raised_most (s.metered + s.shed) (s.gradient *ℤ pos s.coefficient *ℤ (s.real -ℤ s.extreme))
+    raised_most (s.metered + s.shed) s.coefficient s.gradient s.extreme s.real
     (omega (arith, leb-true s.metered 99999999 h.0, leb-true s.shed 99999999 h.1.0))
-    (products_most s.gradient (pos s.coefficient) (s.real -ℤ s.extreme) 9999999 9999 10000
-    (leb-true (nat_abs s.gradient) 9999999 h.1.1.0)
-    (leb-true s.coefficient 9999 h.1.1.1.0)
-    (degrees_most s.extreme s.real (leb-true (nat_abs s.extreme) 5000 h.1.1.1.1.1.0) (leb-true (nat_abs s.real) 5000 h.1.1.1.1.0)))
+    (leb-true _ _ h.1.1.0) (leb-true _ _ h.1.1.1.0) (leb-true _ _ h.1.1.1.1.1.0) (leb-true _ _ h.1.1.1.1.0)
 added_as_most Losses s h =
-    raised_most s.metered (s.gradient *ℤ pos 1000 *ℤ (s.extreme -ℤ s.real))
+    raised_most s.metered 1000 s.gradient s.real s.extreme
     (omega (arith, leb-true s.metered 99999999 h.0))
-    (products_most s.gradient (pos 1000) (s.extreme -ℤ s.real) 9999999 9999 10000
-    (leb-true (nat_abs s.gradient) 9999999 h.1.1.0)
-    (omega arith)
-    (degrees_most s.real s.extreme (leb-true (nat_abs s.real) 5000 h.1.1.1.1.0) (leb-true (nat_abs s.extreme) 5000 h.1.1.1.1.1.0)))
+    (leb-true _ _ h.1.1.0) (omega arith) (leb-true _ _ h.1.1.1.1.0) (leb-true _ _ h.1.1.1.1.1.0)
+
+pub profiled_most : (s : Step) → readings_judged Profiled s ≡ Ok tt → nat_abs (profiled s) ≤ most_added
+profiled_most s e = added_as_most Profiled s (fine_if_accepted 2 (readings_fine Profiled s) tt tt e)
+
+pub losses_most : (s : Step) → readings_judged Losses s ≡ Ok tt → nat_abs (losses s) ≤ most_added
+losses_most s e = added_as_most Losses s (fine_if_accepted 2 (readings_fine Losses s) tt tt e)
 
 pub step_adds_most : (s : Step) → AllFine (step_fine s) → nat_abs (step_adds s) ≤ most_added
 step_adds_most s h = added_as_most (sort_at s.sort) s h.1

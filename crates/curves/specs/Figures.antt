@@ -26,8 +26,8 @@ pub record MarkedFigures : Type 0 where
   pub days_0_10 : kh_of 10 ≡ 4
   pub days_1_15 : kh_of 115 ≡ 48
   pub days_1_16 : kh_of 116 ≡ 51
-  pub by_hours_and_days : level_of 1 37500 23 116 ≡ Ok 101
-  pub solar_1020_kw : level_of 4 1020 0 0 ≡ Ok 2
-  pub solar_1040_kw : level_of 4 1040 0 0 ≡ Ok 3
+  pub by_hours_and_days : level_of 1 (record { power = 37500; hours = 23; days = 116 }) ≡ Ok 101
+  pub solar_1020_kw : level_of 4 (record { power = 1020; hours = 0; days = 0 }) ≡ Ok 2
+  pub solar_1040_kw : level_of 4 (record { power = 1040; hours = 0; days = 0 }) ≡ Ok 3
   pub profiled_sites : obligation_of 2 930 (sum_of_steps (cold_half_hour ∷ mild_half_hour ∷ [])) ≡ Ok 469
   pub losses_alone : obligation_of 2 930 (sum_of_steps (mild_losses ∷ cold_losses ∷ [])) ≡ Ok 56

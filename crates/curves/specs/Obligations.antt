@@ -1,6 +1,6 @@
 -- Steps of a series and obligations: powers in kW, gradients in kW per degree, temperatures in hundredths of a degree,
 -- coefficients in thousandths. A gradient of profiled sites counts per degree colder.
-use Rattle.std.specs.Prelude.{ℕ, ◌+◌, ◌-◌, ◌*◌, ◌/◌, Bool, cond, List, [], ◌∷◌, ℤ, pos, negsuc, ◌+ℤ◌, ◌-ℤ◌, ◌*ℤ◌, Some, None, Option, Result, ◌==◌, nat_le, slice_index_or, unsigned_abs}
+use Rattle.std.specs.Prelude.{ℕ, ◌+◌, ◌-◌, ◌*◌, ◌/◌, Bool, List, [], ◌∷◌, ◌++◌, ℤ, pos, negsuc, ◌+ℤ◌, ◌-ℤ◌, ◌*ℤ◌, Result, ◌==◌, nat_le, slice_index_or, unsigned_abs}
 use Rattle.curves.specs.declared.ranges.OutOfRange.{OutOfRange}
 use Rattle.curves.specs.declared.obligations.Sort.{Sort}
 use Rattle.curves.specs.declared.obligations.Sort.TheVariants.{Profiled, Losses}
@@ -16,9 +16,9 @@ sorts = Profiled ∷ Losses ∷ []
 abbrev pub sort_at : ℕ → Sort
 sort_at number = slice_index_or sorts (number - 1) Profiled
 
--- The sort of any number: none unless it is 1 or 2.
-abbrev pub sort_numbered : ℕ → Option Sort
-sort_numbered number = cond (within 1 2 number) (Some (sort_at number)) None
+-- The sort of any number: refused unless it is 1 or 2.
+abbrev pub sort_numbered : ℕ → Result Sort OutOfRange
+sort_numbered number = judged 1 (within 1 2 number ∷ []) (sort_at number)
 
 -- What a step of profiled sites adds (5.2.1.4.1).
 abbrev pub profiled : Step → ℤ
@@ -96,9 +96,17 @@ reference_power n sum = not_negative sum / (100000 * n)
 unfoldable pub obligation_in_guarantees : ℕ → ℕ → ℤ → ℕ
 obligation_in_guarantees n security sum = by_digit (reference_power n sum * security) 100000
 
--- The ranges of an obligation's fields, in their order (the book's own).
+-- The ranges of a year's terms, in their order (the book's own).
+abbrev pub terms_fine : ℕ → ℕ → List Bool
+terms_fine n security = within 1 400 n ∷ nat_le security 2000 ∷ []
+
+-- A year's terms judged as the fields 1 and 2.
+abbrev pub terms_judged : ℕ → ℕ → Result (ℕ × ℕ) OutOfRange
+terms_judged n security = judged 1 (terms_fine n security) (n, security)
+
+-- The ranges of an obligation's fields, in their order: the year's terms, then the sum (the book's own).
 abbrev pub year_fine : ℕ → ℕ → ℤ → List Bool
-year_fine n security sum = within 1 400 n ∷ nat_le security 2000 ∷ nat_le (unsigned_abs sum) 1000000000000000000 ∷ []
+year_fine n security sum = terms_fine n security ++ nat_le (unsigned_abs sum) 1000000000000000000 ∷ []
 
 -- An obligation alone.
 abbrev pub obligation_of : ℕ → ℕ → ℤ → Result ℕ OutOfRange

@@ -1,5 +1,5 @@
 // The coefficients Kj and Kh of a supply limited in its hours and days, in percent.
-ghost use Rattle.std.specs.Prelude.{◌≡◌, ◌+◌, ◌*◌, ◌<◌, ◌≤◌, slice_index_or};
+ghost use Rattle.std.specs.Prelude.{◌≡◌, ◌+◌, ◌*◌, ◌<◌, ◌≤◌, slice_index};
 ghost use Rattle.curves.specs.Coefficients.{kh_after, kh_of, kj_of, kj_table};
 
 use crate::rounding::rounded;
@@ -43,14 +43,15 @@ pub fn kh(days: u16) -> u8
 
 fn kj_at(half_hours: u64) -> u8
     requires { half_hours ≤ 20 }
-    ensures { result ≡ slice_index_or kj_table half_hours 0 }
+    ensures { result ≡ slice_index kj_table half_hours }
 {
     KJ_TABLE[half_hours as usize]
 }
 
 // Kh some tenths after a whole day, on the straight line to the next day (6.1.3.2).
 fn kh_after(day: usize, tenths: u64) -> u8
-    requires { (tenths < 10) × (10 * day + tenths ≤ 50) }
+    requires tenths { tenths < 10 }
+    requires days { 10 * day + tenths ≤ 50 }
     ensures { result ≡ kh_after day tenths }
 {
     if tenths == 0 {

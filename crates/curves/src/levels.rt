@@ -1,5 +1,5 @@
 // Certified levels, in guarantees.
-ghost use Rattle.std.specs.Prelude.{◌≡◌};
+ghost use Rattle.std.specs.Prelude.{◌≡◌, ◌≤◌};
 ghost use Rattle.curves.specs.Levels.{guarantees, level_of, method_numbered, shares, supply_judged};
 
 use crate::coefficients::{kh, kj};
@@ -41,36 +41,53 @@ pub enum Method {
     Solar,
 }
 
-impl Method {
+// What a level follows from beside the method, with its fields as given and not yet judged.
+#[derive(Clone, Copy, PartialEq, Eq, Debug)]
+pub struct Supply {
+    // In kW.
+    pub power: u32,
+    // In tenths.
+    pub hours: u8,
+    // In hundredths.
+    pub days: u16,
+}
+
+impl TryFrom<u8> for Method {
+    type Error = OutOfRange;
+
+    ghost try_from_gives = { λ number r. r ≡ method_numbered number };
+
     // Methods have the numbers 1 to 4 (the book's own).
-    pub fn numbered(number: u8) -> Option<Method>
-        ensures { result ≡ method_numbered number }
-    {
+    fn try_from(number: u8) -> Result<Method, OutOfRange> {
         match number {
-            1 => Some(Method::Dispatchable),
-            2 => Some(Method::Hydraulic),
-            3 => Some(Method::Wind),
-            4 => Some(Method::Solar),
-            _ => None,
+            1 => Ok(Method::Dispatchable),
+            2 => Ok(Method::Hydraulic),
+            3 => Ok(Method::Wind),
+            4 => Ok(Method::Solar),
+            _ => Err(OutOfRange { field: 1 }),
         }
     }
+}
 
-    // The level of a power in kW; hours in tenths and days in hundredths count for dispatchable power alone.
-    pub fn level(self, power: u32, hours: u8, days: u16) -> u32
-        ensures { result ≡ guarantees self power hours days }
+impl Method {
+    // The level of a supply; its hours and days count for dispatchable power alone.
+    #[tactic(auto, unfolding(crate::specs::Levels::guarantees))]
+    pub fn level(self, supply: Supply) -> u32
+        ensures { result ≡ guarantees self supply }
     {
         rounded(
-            u64::from(power) * self.share(hours, days),
+            u64::from(supply.power) * self.share(supply),
             SHARES_PER_GUARANTEE,
         ) as u32
     }
 
     // What the method counts of a power, in hundredths of a percent.
-    fn share(self, hours: u8, days: u16) -> u64
-        ensures { result ≡ shares self hours days }
+    fn share(self, supply: Supply) -> u64
+        ensures answer { result ≡ shares self supply }
+        ensures bound { result ≤ 10000 }
     {
         match self {
-            Method::Dispatchable => u64::from(kj(hours)) * u64::from(kh(days)),
+            Method::Dispatchable => u64::from(kj(supply.hours)) * u64::from(kh(supply.days)),
             Method::Hydraulic => HYDRAULIC_PERCENT * WHOLE,
             Method::Wind => WIND_PERCENT * WHOLE,
             Method::Solar => SOLAR_PERCENT * WHOLE,
@@ -78,22 +95,22 @@ impl Method {
     }
 }
 
-// The level alone, of a method's number, a power in kW, hours in tenths and days in hundredths.
-pub fn level(method: u8, power: u32, hours: u8, days: u16) -> Result<u32, OutOfRange>
-    ensures { result ≡ level_of method power hours days }
-{
-    let Some(method) = Method::numbered(method) else {
-        return Err(OutOfRange { field: 1 });
-    };
-    supply_in_range(power, hours, days)?;
-    Ok(method.level(power, hours, days))
+impl Supply {
+    // Judges power, hours and days, for every method, as the fields 2, 3 and 4.
+    pub fn in_range(self) -> Result<(), OutOfRange>
+        ensures { result ≡ supply_judged self }
+    {
+        judge(2, self.power <= MOST_POWER)?;
+        judge(3, self.hours <= MOST_HOURS)?;
+        judge(4, self.days <= MOST_DAYS)
+    }
 }
 
-// Judges power, hours and days, for every method, as the fields 2, 3 and 4.
-pub fn supply_in_range(power: u32, hours: u8, days: u16) -> Result<(), OutOfRange>
-    ensures { result ≡ supply_judged power hours days }
+// The level alone, of a method's number and a supply. A number and no `Method`: one that names none is refused.
+pub fn level(method: u8, supply: Supply) -> Result<u32, OutOfRange>
+    ensures { result ≡ level_of method supply }
 {
-    judge(2, power <= MOST_POWER)?;
-    judge(3, hours <= MOST_HOURS)?;
-    judge(4, days <= MOST_DAYS)
+    let method = Method::try_from(method)?;
+    supply.in_range()?;
+    Ok(method.level(supply))
 }

@@ -8,9 +8,11 @@ mod levels;
 mod obligations;
 mod ranges;
 mod rounding;
+mod terms;
 
 pub use coefficients::{kh, kj};
 pub use figures::marked_figures;
-pub use levels::{Method, level, supply_in_range};
+pub use levels::{Method, Supply, level};
 pub use obligations::{Sort, Step, added, obligation};
-pub use ranges::OutOfRange;
+pub use ranges::{OutOfRange, judge};
+pub use terms::YearTerms;

@@ -1,7 +1,10 @@
 -- Digits in pairs: lengths, places, and one more pair.
-use Rattle.std.proofs.Common.{◌≡◌, ℕ, zero, suc, ◌+◌, ◌*◌, ◌/◌, ◌%◌, ◌<◌, ◌≤◌, Bool, true, false, cond, List, [], ◌∷◌, ◌++◌, length, get_or, take, drop, set, Ok, refl, ap, ◌∙◌, arith}
-use Rattle.std.proofs.lemmas.List.{append_assoc, take_more, drop_more, set_at, length-append, length-take-le, take_at, at_drop_more, at_drop_all}
-use Rattle.std.proofs.lemmas.Bool.{cond-true, cond-false}
+use Rattle.std.proofs.Common.{◌≡◌, ℕ, zero, suc, ◌+◌, ◌*◌, ◌/◌, ◌%◌, ◌<◌, ◌≤◌, Bool, true, not, map, List, [], ◌∷◌, ◌++◌, length, get_or, take, drop, set, None, Ok, sym, refl, ap, ◌∙◌, arith}
+use Rattle.std.specs.List.{position_or_len}
+use Rattle.std.specs.Simd.{first_chunks}
+use Rattle.std.proofs.lemmas.List.{length-map, map_more, drop-drop, get_or-drop, get_or-take, append_assoc, take_more, drop_more, set_at, length-append, length-take-le, take_at}
+use Rattle.std.proofs.lemmas.List.Sums.{fails_before_first, position_or_len_is}
+use Rattle.std.proofs.lemmas.Bool.{not-false}
 use Rattle.std.proofs.lemmas.Bool.Decides.{nat_tests}
 use Rattle.digits.specs.Hex.{digit, digits, is_digit, worth, first_wrong, bytes_of, reading}
 
@@ -16,101 +19,84 @@ length_digits (x ∷ xs) = let h = length_digits xs in omega arith
 digits_more : (bs : List ℕ) (i : ℕ) → i < length bs → digits (take (i + 1) bs) ≡ digits (take i bs) ++ (digit (get_or bs i 0 / 16) ∷ digit (get_or bs i 0 % 16) ∷ [])
 digits_more bs i h = ap digits (take_more bs i 0 h) ∙ digits_append (take i bs) (get_or bs i 0 ∷ [])
 
--- two writes one after the other, past what is written
-two_more : (xs ys : List ℕ) (k a b : ℕ) → length xs ≡ k → k + 1 < length ys → set (set (xs ++ drop k ys) k a) (k + 1) b ≡ (xs ++ (a ∷ b ∷ [])) ++ drop (k + 2) ys
+-- one write past what is written
+one_more : (xs ys : List ℕ) (k a : ℕ) → length xs ≡ k → k < length ys → set (xs ++ drop k ys) k a ≡ (xs ++ a ∷ []) ++ drop (k + 1) ys
+one_more xs ys k a e h =
+    ap (λ (t : List ℕ). set (xs ++ t) k a) (drop_more ys k 0 h) ∙ set_at xs (get_or ys k 0) (drop (k + 1) ys) a k e ∙ sym (append_assoc xs (a ∷ []) (drop (k + 1) ys))
+
+two_more : (xs ys : List ℕ) (k a b : ℕ) → length xs ≡ k → k + 1 < length ys → set (set (xs ++ drop k ys) k a) (k + 1) b ≡ (xs ++ a ∷ b ∷ []) ++ drop (k + 2) ys
 two_more xs ys k a b e h =
-    let h1 : k < length ys = omega arith in
-    let d1 = drop_more ys k 0 h1 in
-    let d2 = drop_more ys (k + 1) 0 h in
-    let s1 = set_at xs (get_or ys k 0) (drop (k + 1) ys) a k e in
-    let e2 : length (xs ++ (a ∷ [])) ≡ k + 1 = omega (arith, length-append xs (a ∷ [])) in
-    let s2 = set_at (xs ++ (a ∷ [])) (get_or ys (k + 1) 0) (drop ((k + 1) + 1) ys) b (k + 1) e2 in
-    let a1 = append_assoc xs (a ∷ []) (get_or ys (k + 1) 0 ∷ drop ((k + 1) + 1) ys) in
-    let a2 = append_assoc xs (a ∷ []) (b ∷ drop ((k + 1) + 1) ys) in
-    let a3 = append_assoc xs (a ∷ b ∷ []) (drop ((k + 1) + 1) ys) in
+    let first = one_more xs ys k a e (omega arith) in
+    let second = one_more (xs ++ a ∷ []) ys (k + 1) b (omega (arith, length-append xs (a ∷ []))) h in
+    let joined = append_assoc xs (a ∷ []) (b ∷ []) in
     let n : (k + 1) + 1 ≡ k + 2 = omega arith in
     cc
 
 pub write_more : (bs out xs : List ℕ) (i : ℕ) (pair : ℕ × ℕ) → 2 * length bs ≤ length out → i < length bs → xs ≡ digits (take i bs) ++ drop (2 * i) out → pair ≡ (digit (get_or bs i 0 / 16), digit (get_or bs i 0 % 16)) → set (set xs (2 * i) pair.0) (2 * i + 1) pair.1 ≡ digits (take (i + 1) bs) ++ drop (2 * (i + 1)) out
 write_more bs out xs i pair room lt e p =
-    let le : i ≤ length bs = omega arith in
-    let n : length (digits (take i bs)) ≡ 2 * i = omega (arith, length_digits (take i bs), length-take-le i bs le) in
-    let t = two_more (digits (take i bs)) out (2 * i) (digit (get_or bs i 0 / 16)) (digit (get_or bs i 0 % 16)) n (omega arith) in
-    let d = digits_more bs i lt in
+    let n : length (digits (take i bs)) ≡ 2 * i = omega (arith, length_digits (take i bs), length-take-le i bs (omega arith)) in
+    let two = two_more (digits (take i bs)) out (2 * i) pair.0 pair.1 n (omega arith) in
+    let more = digits_more bs i lt in
     let k : 2 * i + 2 ≡ 2 * (i + 1) = omega arith in
-    ap (λ (q : ℕ × ℕ). set (set xs (2 * i) q.0) (2 * i + 1) q.1) p ∙ cc
+    cc
 
--- the first i characters are digits, and what the next one then tells
-abbrev pub CleanFront : List ℕ → ℕ → Type 0
-CleanFront line i = (i + first_wrong (drop i line) ≡ first_wrong line) × (i < length line → is_digit (get_or line i 0) ≡ false → i ≡ first_wrong line) × (length line ≤ i → i ≡ first_wrong line)
+-- whether a character is wrong
+abbrev wrong : ℕ → Bool
+wrong c = not (is_digit c)
 
-first_wrong_more : (line : List ℕ) (i : ℕ) → i < length line → first_wrong (drop i line) ≡ cond (is_digit (get_or line i 0)) (1 + first_wrong (drop (i + 1) line)) 0
-first_wrong_more line i h = at_drop_more first_wrong line i 0 h
+-- a line has no wrong character where each is a digit, and only there
+pub all_digits : (line : List ℕ) (k : ℕ) → first_wrong line ≡ None → k < length line → is_digit (get_or line k 0) ≡ true
+all_digits line k none h =
+    let l : length line ≤ position_or_len wrong line = grind (arith, nat_tests) in
+    not-false (is_digit (get_or line k 0)) (fails_before_first wrong line k 0 (omega arith))
 
-clean_front : (line : List ℕ) (i : ℕ) → i + first_wrong (drop i line) ≡ first_wrong line → CleanFront line i
-clean_front line i e = (
-  e,
-  (λ h f. omega (arith, first_wrong_more line i h ∙ cond-false (is_digit (get_or line i 0)) (1 + first_wrong (drop (i + 1) line)) 0 f)),
-  (λ h. omega (arith, at_drop_all first_wrong line i h)),
-)
-
-pub clean_none : (line : List ℕ) → CleanFront line 0
-clean_none line = clean_front line 0 (omega arith)
-
-pub clean_more : (line : List ℕ) (i : ℕ) → i < length line → is_digit (get_or line i 0) ≡ true → CleanFront line i → CleanFront line (i + 1)
-clean_more line i h t f = clean_front line (i + 1) (omega (arith, f.0, first_wrong_more line i h ∙ cond-true (is_digit (get_or line i 0)) (1 + first_wrong (drop (i + 1) line)) 0 t))
-
-pub first_wrong_le : (line : List ℕ) → first_wrong line ≤ length line
-first_wrong_le [] = omega arith
-first_wrong_le (c ∷ cs) = let h = first_wrong_le cs in elim (is_digit c) as (λ v. cond v (1 + first_wrong cs) 0 ≤ suc (length cs)) [ true ↦ omega arith | false ↦ omega arith ]
-
-both : (t : Bool) (m n : ℕ) → m ≤ n → cond t (1 + m) 0 ≡ suc n → (t ≡ true) × (m ≡ n)
-both true m n h e = (refl, omega arith)
-both false m n h e = absurd (omega arith)
-
--- a line with no wrong character begins with a digit, and goes on with no wrong character
-pub clean_first : (c : ℕ) (cs : List ℕ) → first_wrong (c ∷ cs) ≡ length (c ∷ cs) → (is_digit c ≡ true) × (first_wrong cs ≡ length cs)
-clean_first c cs e = both (is_digit c) (first_wrong cs) (length cs) (first_wrong_le cs) e
-
--- each character of a line with no wrong one is a digit
-pub clean_each : (line : List ℕ) (k : ℕ) → first_wrong line ≡ length line → k < length line → is_digit (get_or line k 0) ≡ true
-clean_each [] k e h = absurd (omega arith)
-clean_each (c ∷ cs) zero e h = (clean_first c cs e).0
-clean_each (c ∷ cs) (suc k) e h = clean_each cs k (clean_first c cs e).1 (omega arith)
+pub none_wrong : (line : List ℕ) → ((k : ℕ) → k < length line → is_digit (get_or line k 0) ≡ true) → first_wrong line ≡ None
+none_wrong line each =
+    let l : position_or_len wrong line ≡ length line = position_or_len_is wrong line (length line) 0 (omega arith) (λ k h. ap not (each k h)) (λ h. absurd (omega arith)) in
+    grind (arith, nat_tests)
 
 -- an accepted line has no wrong character, and two for each byte
-pub accepted : (line : List ℕ) (room n : ℕ) → Ok n ≡ reading line room → (first_wrong line ≡ length line) × (length line ≡ 2 * n) × (n ≤ room)
-accepted line room n e =
-    let h = first_wrong_le line in
-    (grind (arith, nat_tests), grind (arith, nat_tests), grind (arith, nat_tests))
+pub accepted : (line : List ℕ) (room n : ℕ) → Ok n ≡ reading line room → (first_wrong line ≡ None) × (length line ≡ 2 * n) × (n ≤ room)
+accepted line room n e = (grind (arith, nat_tests), grind (arith, nat_tests), grind (arith, nat_tests))
 
-pub length_bytes_of : (line : List ℕ) → length (bytes_of line) ≡ length line / 2
+length_bytes_of : (line : List ℕ) → length (bytes_of line) ≡ length line / 2
 length_bytes_of [] = refl
 length_bytes_of (h ∷ []) = refl
 length_bytes_of (h ∷ l ∷ cs) = let r = length_bytes_of cs in omega arith
 
-get_or_bytes_of : (line : List ℕ) (i : ℕ) → i < length line / 2 → get_or (bytes_of line) i 0 ≡ 16 * worth (get_or line (2 * i) 0) + worth (get_or line (2 * i + 1) 0)
-get_or_bytes_of [] i h = absurd (omega arith)
-get_or_bytes_of (h ∷ []) i l = absurd (omega arith)
-get_or_bytes_of (h ∷ l ∷ cs) zero lt = refl
-get_or_bytes_of (h ∷ l ∷ cs) (suc i) lt =
-    let r = get_or_bytes_of cs i (omega arith) in
-    let a : 2 * suc i ≡ suc (suc (2 * i)) = omega arith in
-    let b : suc (suc (2 * i)) + 1 ≡ suc (suc (2 * i + 1)) = omega arith in
-    rw (a, b) r
+-- the byte of a pair of digits
+abbrev pub byte : List ℕ → ℕ
+byte pair = 16 * worth (get_or pair 0 0) + worth (get_or pair 1 0)
 
-pub read_more : (line out xs : List ℕ) (i byte : ℕ) → length line ≤ 2 * length out → i < length line / 2 → xs ≡ take i (bytes_of line) ++ drop i out → byte ≡ 16 * worth (get_or line (2 * i) 0) + worth (get_or line (2 * i + 1) 0) → set xs i byte ≡ take (i + 1) (bytes_of line) ++ drop (i + 1) out
-read_more line out xs i byte room lt e eb =
-    let n = length_bytes_of line in
-    let lo : i < length out = omega arith in
-    let lb : i < length (bytes_of line) = omega arith in
-    let t = take_more (bytes_of line) i 0 lb in
-    let g = get_or_bytes_of line i lt in
-    let d = drop_more out i 0 lo in
-    let le : i ≤ length (bytes_of line) = omega arith in
-    let s = set_at (take i (bytes_of line)) (get_or out i 0) (drop (i + 1) out) byte i (length-take-le i (bytes_of line) le) in
-    let q = append_assoc (take i (bytes_of line)) (byte ∷ []) (drop (i + 1) out) in
+pub read_more : (pairs : List (List ℕ)) (out xs : List ℕ) (i b : ℕ) → i < length pairs → length pairs ≤ length out → xs ≡ map byte (take i pairs) ++ drop i out → b ≡ byte (get_or pairs i []) → set xs i b ≡ map byte (take (i + 1) pairs) ++ drop (i + 1) out
+read_more pairs out xs i b lt room e is =
+    let n : length (map byte (take i pairs)) ≡ i = omega (arith, length-map (take i pairs) byte, length-take-le i pairs (omega arith)) in
+    let more = one_more (map byte (take i pairs)) out i b n (omega arith) in
+    let pair = map_more byte pairs i [] lt in
     cc
+
+pub bytes_of_pairs : (line : List ℕ) (k : ℕ) → k ≡ length line / 2 → map byte (first_chunks 2 k line) ≡ bytes_of line
+bytes_of_pairs [] zero e = refl
+bytes_of_pairs [] (suc k) e = absurd (omega arith)
+bytes_of_pairs (h ∷ []) zero e = refl
+bytes_of_pairs (h ∷ []) (suc k) e = absurd (omega arith)
+bytes_of_pairs (h ∷ l ∷ cs) zero e = absurd (omega arith)
+bytes_of_pairs (h ∷ l ∷ cs) (suc k) e = ap (λ (t : List ℕ). (16 * worth h + worth l) ∷ t) (bytes_of_pairs cs k (omega arith))
+
+-- a pair of digits by its place
+pair_at : (line : List ℕ) (k i : ℕ) → i < k → get_or (first_chunks 2 k line) i [] ≡ take 2 (drop (2 * i) line)
+pair_at line zero i h = absurd (omega arith)
+pair_at line (suc k) zero h = refl
+pair_at line (suc k) (suc i) h =
+    let two : 2 + 2 * i ≡ 2 * suc i = omega arith in
+    pair_at (drop 2 line) k i (omega arith) ∙ ap (take 2) (drop-drop (2 * i) 2 line ∙ ap (λ (n : ℕ). drop n line) two)
+
+-- each digit of a pair
+pub digit_at : (line : List ℕ) (pairs : List (List ℕ)) (i j : ℕ) → first_wrong line ≡ None → pairs ≡ first_chunks 2 (length line / 2) line → i < length line / 2 → j < 2 → is_digit (get_or (get_or pairs i []) j 0) ≡ true
+digit_at line pairs i j none e h lt =
+    let at : get_or (get_or pairs i []) j 0 ≡ get_or line (2 * i + j) 0
+    = ap (λ (ps : List (List ℕ)). get_or (get_or ps i []) j 0) e ∙ ap (λ (p : List ℕ). get_or p j 0) (pair_at line (length line / 2) i h) ∙ get_or-take 2 (drop (2 * i) line) j 0 lt ∙ get_or-drop (2 * i) line j 0 in
+    rw at (all_digits line (2 * i + j) none (omega arith))
 
 -- what was read stands in front
 pub read_front : (line out xs : List ℕ) (n : ℕ) → length line ≡ 2 * n → xs ≡ bytes_of line ++ drop (length line / 2) out → take n xs ≡ bytes_of line

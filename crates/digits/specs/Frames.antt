@@ -1,15 +1,9 @@
 -- What stands in a frame.
-use Rattle.std.specs.Prelude.{ℕ, cond, List, [], ◌∷◌, ◌++◌, length, take, nat_le}
-use Rattle.std.proofs.Common.{of_z}
-use Rattle.std.specs.Int.{w32, w64}
+use Rattle.std.specs.Prelude.{ℕ, cond, List, [], ◌∷◌, ◌++◌, length, nat_le}
+use Rattle.std.specs.Int.{cast_unsigned, w32, w64}
 use Rattle.digits.specs.Numbers.{bytes_be}
-use Rattle.digits.specs.declared.frame.Frame.{Frame}
 use Rattle.digits.specs.declared.frame.Field.{Field}
 use Rattle.digits.specs.declared.frame.Field.TheVariants.{Byte, Two, Four, Eight, SignedFour, SignedEight}
-
--- The bytes that stand in a frame.
-abbrev pub written : Frame → List ℕ
-written f = take f.len f.bytes
 
 -- The bytes of a field, the high one first; a signed one in two's complement.
 abbrev pub field_bytes : Field → List ℕ
@@ -17,8 +11,8 @@ field_bytes (Byte n) = n ∷ []
 field_bytes (Two n) = bytes_be 2 n
 field_bytes (Four n) = bytes_be 4 n
 field_bytes (Eight n) = bytes_be 8 n
-field_bytes (SignedFour n) = bytes_be 4 (of_z w32 n)
-field_bytes (SignedEight n) = bytes_be 8 (of_z w64 n)
+field_bytes (SignedFour n) = bytes_be 4 (cast_unsigned w32 n)
+field_bytes (SignedEight n) = bytes_be 8 (cast_unsigned w64 n)
 
 -- The bytes of fields, one after another.
 abbrev pub composed : List Field → List ℕ

@@ -1,5 +1,6 @@
 -- Lines of base-sixteen digits: what bytes are written as, and what a line is read as.
-use Rattle.std.specs.Prelude.{ℕ, ◌+◌, ◌-◌, ◌*◌, ◌/◌, ◌%◌, Bool, cond, ◌&&◌, ◌||◌, List, [], ◌∷◌, length, Some, None, Ok, Err, Option, Result, ◌==◌, nat_le, nat_lt}
+use Rattle.std.specs.Prelude.{ℕ, ◌+◌, ◌-◌, ◌*◌, ◌/◌, ◌%◌, Bool, cond, not, ◌&&◌, ◌||◌, List, [], ◌∷◌, length, Some, None, Ok, Err, Option, Result, ◌==◌, nat_le, nat_lt, position}
+use Rattle.std.specs.Option.{option_map_or}
 use Rattle.digits.specs.declared.hex.HexFault.{HexFault}
 use Rattle.digits.specs.declared.hex.HexFault.TheVariants.{WrongCharacter, OddCount, NoRoom}
 
@@ -20,10 +21,9 @@ is_digit c = (nat_le 48 c && nat_lt c 58) || (nat_le 97 c && nat_lt c 103)
 abbrev pub worth : ℕ → ℕ
 worth c = cond (nat_lt c 58) (c - 48) (c - 97 + 10)
 
--- The place of the first character that is no digit; the length where there is none.
-abbrev pub first_wrong : List ℕ → ℕ
-first_wrong [] = 0
-first_wrong (c ∷ cs) = cond (is_digit c) (1 + first_wrong cs) 0
+-- The place of the first character that is no digit, if there is one.
+abbrev pub first_wrong : List ℕ → Option ℕ
+first_wrong line = position (λ c. not (is_digit c)) line
 
 -- The bytes that pairs of digits stand for; a last digit without its fellow is left out.
 abbrev pub bytes_of : List ℕ → List ℕ
@@ -38,6 +38,6 @@ writing bytes room = cond (nat_le (2 * length bytes) room) (Some (2 * length byt
 -- How many bytes a line is read as, or why it is refused: a wrong character first, then an odd count, then no room.
 abbrev pub reading : List ℕ → ℕ → Result ℕ HexFault
 reading line room =
-    cond (nat_lt (first_wrong line) (length line)) (Err (WrongCharacter (first_wrong line)))
+    option_map_or (λ place. Err (WrongCharacter place)) (first_wrong line)
     (cond (length line % 2 == 1) (Err (OddCount (length line)))
     (cond (nat_lt room (length line / 2)) (Err NoRoom) (Ok (length line / 2))))

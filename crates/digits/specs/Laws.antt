@@ -1,7 +1,6 @@
 -- What is written reads back.
 use Rattle.std.specs.Prelude.{◌≡◌, ℕ, ◌^◌, ◌<◌, ◌≤◌, List, [], ◌∷◌, ◌++◌, length, ℤ, Ok, codes, FitsSigned}
-use Rattle.std.proofs.Common.{to_z, of_z}
-use Rattle.std.specs.Int.{w32}
+use Rattle.std.specs.Int.{cast_signed, cast_unsigned, w32}
 use Rattle.std.specs.Int.Digits.{number_from_digits, AllBelowBase}
 use Rattle.digits.specs.Hex.{digits, bytes_of, reading}
 use Rattle.digits.specs.Numbers.{field, bytes_be}
@@ -24,7 +23,7 @@ FieldBack = (before after : List ℕ) (width n : ℕ) → n < 256 ^ width → fi
 
 -- A signed number of four bytes keeps its sign.
 abbrev pub SignedBack : Type 0
-SignedBack = (before after : List ℕ) (z : ℤ) → FitsSigned w32 z → to_z w32 (field 4 (length before) (before ++ (bytes_be 4 (of_z w32 z) ++ after))) ≡ z
+SignedBack = (before after : List ℕ) (z : ℤ) → FitsSigned w32 z → cast_signed w32 (field 4 (length before) (before ++ (bytes_be 4 (cast_unsigned w32 z) ++ after))) ≡ z
 
 -- Bytes are those of the number that they write.
 abbrev pub BytesBack : Type 0

@@ -1,22 +1,30 @@
 // The bytes of an answer, composed field by field.
-ghost use Rattle.std.specs.Prelude.{◌≡◌, ◌≤◌, length};
+ghost use Rattle.std.specs.Prelude.{ℕ, List};
 
 mod compose;
+
+use arrayvec::ArrayVec;
+use std::marker::Model;
 
 // The longest answer: two bytes, a price of four and three sums of eight.
 pub const LONGEST: usize = 30;
 
-// The first `len` bytes are the frame.
-#[derive(Clone, Copy)]
+#[derive(Debug, Default, Clone, PartialEq, Eq, Drop)]
 pub struct Frame {
-    bytes: [u8; LONGEST],
-    len: usize,
-    ghost whole: { length bytes ≡ 30 },
-    ghost fits: { len ≤ 30 },
+    bytes: ArrayVec<u8, LONGEST>,
+}
+
+// A contract sees the bytes that stand in a frame.
+impl Model for Frame {
+    ghost Value = { List ℕ };
+
+    ghost view = { λ frame. frame.bytes.items };
+
+    ghost inverse = { λ written. record { bytes = record { items = written } } };
 }
 
 // A number in a frame, by its width in bytes; a signed one stands in two's complement.
-#[derive(Clone, Copy)]
+#[derive(Debug, Clone, Copy, PartialEq, Eq)]
 pub enum Field {
     Byte(u8),
     Two(u16),

@@ -1,9 +1,10 @@
 // Lines of lowercase base-sixteen digits, two for each byte, the high one first.
-ghost use Rattle.std.specs.Prelude.{◌≡◌, ◌+◌, ◌*◌, ◌/◌, ◌%◌, ◌<◌, ◌≤◌, true, ◌++◌, length, take, drop, is_some, is_ok, IfOk, if◌then◌else◌};
+// The kit's `hex` reads capitals too and judges in another order; its `encode_to_slice`, tried, takes a sixth longer.
+ghost use Rattle.std.specs.Prelude.{◌≡◌, ◌+◌, ◌*◌, ◌/◌, ◌%◌, ◌<◌, ◌≤◌, true, ◌++◌, length, take, drop, is_some, is_ok, IfSome, IfOk, if◌then◌else◌};
 ghost use Rattle.digits.specs.Hex.{digit, digits, is_digit, worth, first_wrong, bytes_of, reading, writing};
 
 // Why a line writes no bytes.
-#[derive(Debug, Clone, Copy)]
+#[derive(Debug, Clone, Copy, PartialEq, Eq)]
 pub enum HexFault {
     // The place of the first character that is no digit.
     WrongCharacter(usize),
@@ -13,7 +14,8 @@ pub enum HexFault {
     NoRoom,
 }
 
-// Writes the digits of `bytes` at the start of `out`, and gives their count; writes nothing where they do not fit.
+// Writes the digits of `bytes` at the start of `out`, and gives their count, as the space is lent;
+// writes nothing where they do not fit.
 pub fn write_hex(out: &mut [u8], bytes: &[u8]) -> Option<usize>
     ensures answer { result ≡ writing bytes.now (length out.old) }
     ensures after { out.new ≡ (if is_some result then digits bytes.now ++ drop (2 * length bytes.now) out.old else out.old) }
@@ -38,25 +40,19 @@ pub fn read_hex(line: &[u8], out: &mut [u8]) -> Result<usize, HexFault>
     Ok(count)
 }
 
-// The place of the first character of `line` that is no digit, or the length of `line`.
-pub fn first_wrong(line: &[u8]) -> usize
+// The place of the first character of `line` that is no digit, if there is one.
+pub fn first_wrong(line: &[u8]) -> Option<usize>
     ensures answer { result ≡ first_wrong line.now }
-    ensures bound { result ≤ length line.now }
+    ensures bound { IfSome result (λ place. place < length line.now) }
 {
-    for (i, c) in line.iter().enumerate() {
-        if !is_digit(*c) {
-            return i;
-        }
-    }
-    line.len()
+    line.iter().position(|c| !is_digit(*c))
 }
 
 fn count_of(line: &[u8], room: usize) -> Result<usize, HexFault>
     ensures { result ≡ reading line.now room }
 {
-    let wrong = first_wrong(line);
-    if wrong < line.len() {
-        return Err(HexFault::WrongCharacter(wrong));
+    if let Some(place) = first_wrong(line) {
+        return Err(HexFault::WrongCharacter(place));
     }
     if line.len() % 2 == 1 {
         return Err(HexFault::OddCount(line.len()));
@@ -68,23 +64,25 @@ fn count_of(line: &[u8], room: usize) -> Result<usize, HexFault>
     Ok(count)
 }
 
+// By index: after `out.chunks_exact_mut(2).zip(bytes)`, which was tried, a proof knows no element of `out`.
 fn write_pairs(out: &mut [u8], bytes: &[u8])
     requires { 2 * length bytes.now ≤ length out.old }
     ensures { out.new ≡ digits bytes.now ++ drop (2 * length bytes.now) out.old }
 {
     for (i, byte) in bytes.iter().enumerate() {
-        let (high, low) = pair_of(*byte);
-        out[2 * i] = high;
-        out[2 * i + 1] = low;
+        (out[2 * i], out[2 * i + 1]) = pair_of(*byte);
     }
 }
 
+// By index: after `out.iter_mut().zip(pairs)`, which was tried, a proof knows no element of `out`.
 fn read_pairs(line: &[u8], out: &mut [u8])
-    requires { (first_wrong line.now ≡ length line.now) × (length line.now ≤ 2 * length out.old) }
+    requires sound { first_wrong line.now ≡ None }
+    requires room { length line.now ≤ 2 * length out.old }
     ensures { out.new ≡ bytes_of line.now ++ drop (length line.now / 2) out.old }
 {
-    for i in 0..line.len() / 2 {
-        out[i] = byte_of(line[2 * i], line[2 * i + 1]);
+    let (pairs, _) = line.as_chunks::<2>();
+    for (i, [high, low]) in pairs.iter().enumerate() {
+        out[i] = byte_of(*high, *low);
     }
 }
 
@@ -95,7 +93,8 @@ fn pair_of(byte: u8) -> (u8, u8)
 }
 
 fn byte_of(high: u8, low: u8) -> u8
-    requires { (is_digit high ≡ true) × (is_digit low ≡ true) }
+    requires high { is_digit high ≡ true }
+    requires low { is_digit low ≡ true }
     ensures { result ≡ 16 * worth high + worth low }
 {
     16 * worth_of(high) + worth_of(low)
@@ -123,5 +122,5 @@ fn worth_of(c: u8) -> u8
 fn is_digit(c: u8) -> bool
     ensures { result ≡ is_digit c }
 {
-    (c >= b'0' && c <= b'9') || (c >= b'a' && c <= b'f')
+    c.is_ascii_digit() || matches!(c, b'a'..=b'f')
 }

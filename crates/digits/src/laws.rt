@@ -2,9 +2,13 @@
 ghost use Rattle.digits.specs.Laws.{Sixteen, ReadBack, WrittenBack, FieldBack, SignedBack, BytesBack};
 
 pub fn lines_turn_back()
-    ensures { Sixteen × (ReadBack × WrittenBack) }
+    ensures sixteen { Sixteen }
+    ensures read_back { ReadBack }
+    ensures written_back { WrittenBack }
 {}
 
 pub fn numbers_turn_back()
-    ensures { FieldBack × (SignedBack × BytesBack) }
+    ensures field_back { FieldBack }
+    ensures signed_back { SignedBack }
+    ensures bytes_back { BytesBack }
 {}

@@ -1,82 +1,78 @@
-// Works out levels, steps and obligations alone, one for each line of a stored table: what an answer line of the book cannot reach.
+// Works out levels, steps and obligations alone, one for each line of a stored table: what an answer line
+// of the book cannot reach.
 // A line is 24 bytes in digits: a kind (1 level, 2 step, 3 obligation), its fields, zeros.
 
 #![tactic(auto)]
 
-use curves::{OutOfRange, Step, added, level, obligation};
+use curves::{OutOfRange, Step, Supply, added, level, obligation};
 use digits::frame::{Field, Frame};
 use digits::hex::{read_hex, write_hex};
-use digits::numbers::{i16_at, i32_at, u8_at, u16_at, u32_at, u64_at};
+use digits::numbers::field_at;
 use std::io::Write;
 use std::{env, fs, io};
 
 // The digits of a line, and the line with its end.
 const DIGITS: usize = 48;
 
-const LINE: usize = 49;
+const LINE: usize = DIGITS + 1;
 
-fn refused(fault: OutOfRange) -> Frame {
-    Frame::of(&[Field::Byte(1), Field::Byte(fault.field)])
+// The digits of the longest frame.
+const ANSWER: usize = 60;
+
+// A figure behind byte 0, or behind byte 1 the field that is out of its range.
+fn framed(answer: Result<Field, OutOfRange>) -> Frame {
+    match answer {
+        Ok(figure) => Frame::of(&[Field::Byte(0), figure]),
+        Err(fault) => Frame::of(&[Field::Byte(1), Field::Byte(fault.field)]),
+    }
 }
 
-fn answer(frame: &[u8]) -> Frame {
-    match u8_at(frame, 0) {
+// Three kinds, told apart once: an enum of them would be made here and matched here.
+fn figure(frame: &[u8]) -> Result<Field, OutOfRange> {
+    match field_at::<u8>(frame, 0) {
         1 => level_alone(frame),
         2 => step_alone(frame),
         _ => obligation_alone(frame),
     }
 }
 
-fn level_alone(frame: &[u8]) -> Frame {
-    match level(
-        u8_at(frame, 1),
-        u32_at(frame, 2),
-        u8_at(frame, 6),
-        u16_at(frame, 7),
-    ) {
-        Ok(guarantees) => Frame::of(&[Field::Byte(0), Field::Four(guarantees)]),
-        Err(fault) => refused(fault),
-    }
-}
-
-fn step_alone(frame: &[u8]) -> Frame {
-    let step = Step {
-        sort: u8_at(frame, 1),
-        metered: u32_at(frame, 2),
-        shed: u32_at(frame, 6),
-        gradient: i32_at(frame, 10),
-        coefficient: u16_at(frame, 14),
-        real: i16_at(frame, 16),
-        extreme: i16_at(frame, 18),
+fn level_alone(frame: &[u8]) -> Result<Field, OutOfRange> {
+    let supply = Supply {
+        power: field_at(frame, 2),
+        hours: field_at(frame, 6),
+        days: field_at(frame, 7),
     };
-    match added(step) {
-        Ok(sum) => Frame::of(&[Field::Byte(0), Field::SignedEight(sum)]),
-        Err(fault) => refused(fault),
-    }
+    Ok(Field::Four(level(field_at(frame, 1), supply)?))
 }
 
-fn obligation_alone(frame: &[u8]) -> Frame {
-    match obligation(
-        u16_at(frame, 1),
-        u16_at(frame, 3),
-        u64_at(frame, 5).cast_signed(),
-    ) {
-        Ok(guarantees) => Frame::of(&[Field::Byte(0), Field::Eight(guarantees)]),
-        Err(fault) => refused(fault),
-    }
+fn step_alone(frame: &[u8]) -> Result<Field, OutOfRange> {
+    let step = Step {
+        sort: field_at(frame, 1),
+        metered: field_at(frame, 2),
+        shed: field_at(frame, 6),
+        gradient: field_at(frame, 10),
+        coefficient: field_at(frame, 14),
+        real: field_at(frame, 16),
+        extreme: field_at(frame, 18),
+    };
+    Ok(Field::SignedEight(added(step)?))
+}
+
+fn obligation_alone(frame: &[u8]) -> Result<Field, OutOfRange> {
+    let guarantees = obligation(field_at(frame, 1), field_at(frame, 3), field_at(frame, 5))?;
+    Ok(Field::Eight(guarantees))
 }
 
 fn answer_all(rt: &HostRuntime, table: &[u8]) -> io::Result<()> {
     let mut output = rt.stdout();
-    for i in 0..table.len() / LINE {
-        let mut bytes = [0; 24];
-        let mut digits = [0; 60];
-        let at = LINE * i;
-        let _ = read_hex(&table[at..at + DIGITS], &mut bytes);
-        let frame = answer(&bytes);
-        let count = (2 * frame.bytes().len()).min(60);
-        let _ = write_hex(&mut digits, frame.bytes());
-        output.write_all(&digits[0..count])?;
+    let (lines, _) = table.as_chunks::<LINE>();
+    for line in lines {
+        let mut bytes = [0; DIGITS / 2];
+        let mut digits = [0; ANSWER];
+        let _ = read_hex(&line[..DIGITS], &mut bytes);
+        let frame = framed(figure(&bytes));
+        let count = write_hex(&mut digits, frame.bytes()).unwrap_or(0);
+        output.write_all(&digits[..count.min(ANSWER)])?;
         output.write_all(b"\n")?;
     }
     Ok(())

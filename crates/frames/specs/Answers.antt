@@ -4,27 +4,11 @@ use Rattle.digits.specs.declared.frame.Field.{Field}
 use Rattle.digits.specs.declared.frame.Field.TheVariants.{Byte, Two, Four, Eight, SignedFour, SignedEight}
 use Rattle.digits.specs.Hex.{digits}
 use Rattle.digits.specs.Frames.{composed}
-use Rattle.rules.specs.declared.faults.Refusal.{Refusal}
-use Rattle.rules.specs.declared.calls.Call.{Call}
-use Rattle.rules.specs.declared.calls.Call.TheVariants.{Begin, Open, Certify, Rebalance, Offer, Accept, Recall, Load, Close, Settle, Report}
+use Rattle.refusals.specs.declared.Refusal.{Refusal}
 use Rattle.rules.specs.declared.calls.Reply.{Reply}
 use Rattle.rules.specs.declared.calls.Reply.TheVariants.{Done, Level, Holding, Returned, Figures, Stated}
 use Rattle.frames.specs.declared.fault.LineFault.{LineFault}
 use Rattle.frames.specs.Faults.{line_refusal}
-
--- The kind byte of each call.
-abbrev pub kind_of_call : Call → ℕ
-kind_of_call (Begin _ _) = 0
-kind_of_call (Open _) = 1
-kind_of_call (Certify _ _ _ _ _ _) = 2
-kind_of_call (Rebalance _ _ _ _) = 3
-kind_of_call (Offer _ _ _ _) = 4
-kind_of_call (Accept _ _) = 5
-kind_of_call (Recall _ _) = 6
-kind_of_call (Load _ _ _) = 7
-kind_of_call Close = 8
-kind_of_call (Settle _ _) = 9
-kind_of_call (Report _) = 10
 
 -- The results of an accepted call, by their widths.
 abbrev pub results : Reply → List Field

@@ -1,5 +1,5 @@
 -- What an answer line says of each refusal of a line: its layer, its number and its place.
-use Rattle.rules.specs.declared.faults.Refusal.{Refusal}
+use Rattle.refusals.specs.declared.Refusal.{Refusal}
 use Rattle.rules.specs.Refusals.{refusal_of}
 use Rattle.frames.specs.declared.fault.LineFault.{LineFault}
 use Rattle.frames.specs.declared.fault.LineFault.TheVariants.{TooLong, WrongCharacter, OddCount, NoBytes, UnknownKind, WrongLength, NoSpace, Registry}

@@ -1,50 +1,40 @@
 // From an answer to its line.
-ghost use Rattle.std.specs.Prelude.{◌≡◌, ℕ, ◌+◌, ◌≤◌, length};
-ghost use Rattle.digits.specs.Frames.{written};
-ghost use Rattle.frames.specs.Answers.{kind_of_call, answer_bytes, refusal_bytes, reply_bytes, line_of, over};
+ghost use Rattle.std.specs.Prelude.{◌≡◌, ◌+◌, ◌≤◌, length};
+ghost use Rattle.frames.specs.Kinds.{kind_of_call};
+ghost use Rattle.frames.specs.Answers.{answer_bytes, refusal_bytes, reply_bytes, line_of, over};
 
 use crate::fault::LineFault;
+use crate::kind::Kind;
 use digits::frame::{Field, Frame};
 use digits::hex::write_hex;
 use rules::{Call, Refusal, Reply, Settlement, Statement};
 
 // A line's last byte.
-const LINE_END: u8 = 10;
+pub const LINE_END: u8 = 10;
 
 // The kind byte of a call.
 pub fn kind_of(call: Call) -> u8
     ensures { result ≡ kind_of_call call }
 {
-    match call {
-        Call::Begin { .. } => 0,
-        Call::Open { .. } => 1,
-        Call::Certify { .. } => 2,
-        Call::Rebalance { .. } => 3,
-        Call::Offer { .. } => 4,
-        Call::Accept { .. } => 5,
-        Call::Recall { .. } => 6,
-        Call::Load { .. } => 7,
-        Call::Close => 8,
-        Call::Settle { .. } => 9,
-        Call::Report { .. } => 10,
-    }
+    Kind::from(call) as u8
 }
 
-// The bytes of an answer: an accepted call's kind and results, or a refusal.
+// The bytes of an answer: an accepted call's kind and results, or a refusal. The kind is a byte, as a
+// line has it: callers need no `Kind`.
 pub fn answer_frame(said: Result<(u8, Reply), LineFault>) -> Frame
-    ensures { written result ≡ answer_bytes said }
+    ensures { result ≡ answer_bytes said }
 {
     match said {
         Ok((kind, reply)) => reply_frame(kind, reply),
-        Err(fault) => refusal_frame(fault.refusal()),
+        Err(fault) => refusal_frame(Refusal::from(fault)),
     }
 }
 
 // Writes the digits of a frame and the line's end over the answer space from `at` on, and gives their count.
 pub fn write_line(answers: &mut [u8], at: usize, frame: &Frame) -> usize
     requires { at + 61 ≤ length answers.old }
-    ensures after { answers.new ≡ over answers.old at (line_of (written frame.now)) }
-    ensures answer { result ≡ length (line_of (written frame.now)) }
+    ensures after { answers.new ≡ over answers.old at (line_of frame.now) }
+    ensures answer { result ≡ length (line_of frame.now) }
     ensures bound { result ≤ 61 }
 {
     let bytes = frame.bytes();
@@ -54,16 +44,16 @@ pub fn write_line(answers: &mut [u8], at: usize, frame: &Frame) -> usize
     2 * bytes.len() + 1
 }
 
+// No `From`: the kind byte is the call's.
 fn reply_frame(kind: u8, reply: Reply) -> Frame
-    ensures { written result ≡ reply_bytes kind reply }
+    ensures { result ≡ reply_bytes kind reply }
 {
     match reply {
         Reply::Done => Frame::of(&[Field::Byte(0), Field::Byte(kind)]),
-        Reply::Level(level) => Frame::of(&[Field::Byte(0), Field::Byte(kind), Field::Four(level)]),
-        Reply::Holding(holding) => Frame::of(&[
+        Reply::Level(guarantees) | Reply::Holding(guarantees) => Frame::of(&[
             Field::Byte(0),
             Field::Byte(kind),
-            Field::Four(holding),
+            Field::Four(guarantees),
         ]),
         Reply::Returned(offers) => Frame::of(&[
             Field::Byte(0),
@@ -76,7 +66,7 @@ fn reply_frame(kind: u8, reply: Reply) -> Frame
 }
 
 fn figures_frame(kind: u8, figures: Settlement) -> Frame
-    ensures { written result ≡ reply_bytes kind (Reply.Figures figures) }
+    ensures { result ≡ reply_bytes kind (Reply.Figures figures) }
 {
     Frame::of(&[
         Field::Byte(0),
@@ -89,7 +79,7 @@ fn figures_frame(kind: u8, figures: Settlement) -> Frame
 }
 
 fn statement_frame(kind: u8, statement: Statement) -> Frame
-    ensures { written result ≡ reply_bytes kind (Reply.Stated statement) }
+    ensures { result ≡ reply_bytes kind (Reply.Stated statement) }
 {
     Frame::of(&[
         Field::Byte(0),
@@ -102,7 +92,7 @@ fn statement_frame(kind: u8, statement: Statement) -> Frame
 }
 
 fn refusal_frame(refusal: Refusal) -> Frame
-    ensures { written result ≡ refusal_bytes refusal }
+    ensures { result ≡ refusal_bytes refusal }
 {
     Frame::of(&[
         Field::Byte(refusal.layer),

@@ -6,7 +6,7 @@ ghost use Rattle.frames.specs.Faults.{line_refusal};
 use rules::{Refusal, RegistryFault};
 
 // The refusals of lines (layer 1) and of frames (layer 2), and the registry's inside.
-#[derive(Clone, Copy)]
+#[derive(Clone, Copy, PartialEq, Eq, Debug)]
 pub enum LineFault {
     // Over 64 characters.
     TooLong,
@@ -24,47 +24,24 @@ pub enum LineFault {
     Registry(RegistryFault),
 }
 
-impl LineFault {
-    pub fn refusal(&self) -> Refusal
-        ensures { result ≡ line_refusal self.now }
-    {
-        match self {
-            LineFault::TooLong => Refusal {
-                layer: 1,
-                number: 1,
-                place: 64,
-            },
-            LineFault::WrongCharacter(index) => Refusal {
-                layer: 1,
-                number: 2,
-                place: u16::from(*index),
-            },
-            LineFault::OddCount(count) => Refusal {
-                layer: 1,
-                number: 3,
-                place: u16::from(*count),
-            },
-            LineFault::NoBytes => Refusal {
-                layer: 2,
-                number: 1,
-                place: 0,
-            },
-            LineFault::UnknownKind(kind) => Refusal {
-                layer: 2,
-                number: 2,
-                place: u16::from(*kind),
-            },
-            LineFault::WrongLength(found) => Refusal {
-                layer: 2,
-                number: 3,
-                place: u16::from(*found),
-            },
-            LineFault::NoSpace => Refusal {
-                layer: 2,
-                number: 4,
-                place: 0,
-            },
-            LineFault::Registry(fault) => fault.refusal(),
+impl From<LineFault> for Refusal {
+    ghost from_gives = { λ e r. r ≡ line_refusal e };
+
+    fn from(fault: LineFault) -> Refusal {
+        let (layer, number, place) = match fault {
+            LineFault::TooLong => (1, 1, 64),
+            LineFault::WrongCharacter(index) => (1, 2, u16::from(index)),
+            LineFault::OddCount(count) => (1, 3, u16::from(count)),
+            LineFault::NoBytes => (2, 1, 0),
+            LineFault::UnknownKind(kind) => (2, 2, u16::from(kind)),
+            LineFault::WrongLength(found) => (2, 3, u16::from(found)),
+            LineFault::NoSpace => (2, 4, 0),
+            LineFault::Registry(inner) => return Refusal::from(inner),
+        };
+        Refusal {
+            layer,
+            number,
+            place,
         }
     }
 }

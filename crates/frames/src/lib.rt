@@ -5,7 +5,9 @@
 pub mod answers;
 pub mod fault;
 pub mod frame;
+pub mod kind;
 
-pub use answers::{answer_frame, kind_of, write_line};
+pub use answers::{LINE_END, answer_frame, kind_of, write_line};
 pub use fault::LineFault;
 pub use frame::read_call;
+pub use kind::Kind;

@@ -6,6 +6,7 @@ use Rattle.registers.proofs.Members.{all_member, lookup_has}
 use Rattle.ledger.specs.declared.fault.LedgerFault.TheVariants.{PastLimit}
 use Rattle.ledger.specs.Rules.{limit, known}
 use Rattle.curves.specs.declared.obligations.Step.{Step}
+use Rattle.curves.specs.declared.levels.Supply.{Supply}
 use Rattle.curves.specs.Levels.{guarantees, method_at}
 use Rattle.curves.specs.Obligations.{sort_at}
 use Rattle.curves.proofs.Charts.{guarantees_most}
@@ -37,9 +38,9 @@ abbrev Ruled : (ℕ → ℕ) → List Fact → ℕ → Call → Type 0
 Ruled start fs m c = Says (Said start fs c) (ruling (year fs) (holds start fs) m c)
 
 -- So of an entity worked out again, and of an offer ended by a party that it names, whatever was found.
-abbrev Relevels : (ℕ → ℕ) → List Fact → ℕ → ℕ → ℕ → ℕ → Fact → Type 0
-Relevels start fs i power hours days fact =
-    Founded (year fs) (holds start fs) fact × ((e : Entity) × Levelled e fs × (e.number ≡ i) × (fact ≡ relevelled e (guarantees e.method power hours days)))
+abbrev Relevels : (ℕ → ℕ) → List Fact → ℕ → Supply → Fact → Type 0
+Relevels start fs i supply fact =
+    Founded (year fs) (holds start fs) fact × ((e : Entity) × Levelled e fs × (e.number ≡ i) × (fact ≡ relevelled e (guarantees e.method supply)))
 
 abbrev Ends : (ℕ → ℕ) → List Fact → (Offer → ℕ) → ℕ → ℕ → Fact → Type 0
 Ends start fs party i a fact = Founded (year fs) (holds start fs) fact × ((o : Offer) × Stands o fs × (o.number ≡ i) × (party o ≡ a) × (fact ≡ ended o a))
@@ -57,15 +58,15 @@ module _ (start : ℕ → ℕ) (fs : List Fact) (kept : Kept start fs) where
       says_walk (Said start fs (Open a)) (not (is_open (year fs) a) else InUse 1 ∷ []) (Ok Done) (tt, tt)
       (λ passed. (record { low = range.0; high = range.1; free = none_found (account_in (year fs) a) (not-true (is_open (year fs) a) passed.0) }, tt))
 
-  certifies : (m i a method power hours days : ℕ) → known a ≡ true → power ≤ 99999999 → Ruled start fs m (Certify i a method power hours days)
-  certifies m i a method power hours days is_known high =
+  certifies : (m i a method : ℕ) (supply : Supply) → known a ≡ true → supply.power ≤ 99999999 → Ruled start fs m (Certify i a method supply)
+  certifies m i a method supply is_known high =
       let range = known_range a is_known in
-      let level = guarantees (method_at method) power hours days in
-      let most = guarantees_most (method_at method) power hours days high in
+      let level = guarantees (method_at method) supply in
+      let most = guarantees_most (method_at method) supply high in
       says_walk _ (is_open (year fs) a else NotOpen 2 ∷ not (is_some (entity_in (year fs) i)) else InUse 1 ∷ ltb (length (year fs).entities) 64 else RegisterFull ∷ []) _
       (tt, (tt, (tt, tt)))
       (λ passed.
-      says_levelled (Said start fs (Certify i a method power hours days)) (holds start fs) m a 0 level is_known (omega (arith, held_most start fs kept a range.0 range.1))
+      says_levelled (Said start fs (Certify i a method supply)) (holds start fs) m a 0 level is_known (omega (arith, held_most start fs kept a range.0 range.1))
       (λ _. (
         record {
           owner = passed.0;
@@ -76,15 +77,15 @@ module _ (start : ℕ → ℕ) (fs : List Fact) (kept : Kept start fs) where
         tt,
       )))
 
-  rebalances : (m i power hours days : ℕ) → power ≤ 99999999 → (found : Option Entity) → entity_in (year fs) i ≡ found
-      → Says (λ _. Relevels start fs i power hours days (rebalanced found power hours days)) (rebalancing (holds start fs) m found power hours days)
-  rebalances m i power hours days high None is = tt
-  rebalances m i power hours days high (Some e) is =
+  rebalances : (m i : ℕ) (supply : Supply) → supply.power ≤ 99999999 → (found : Option Entity) → entity_in (year fs) i ≡ found
+      → Says (λ _. Relevels start fs i supply (rebalanced found supply)) (rebalancing (holds start fs) m found supply)
+  rebalances m i supply high None is = tt
+  rebalances m i supply high (Some e) is =
       let there = lookup_has entity_number i (year fs).entities e is in
       let owned = all_member (Owned (λ k. Opened k fs)) (year fs).entities e kept.owned there.0 in
       let range = opened_range start fs kept e.account owned.0 in
-      let level = guarantees e.method power hours days in
-      let most = guarantees_most e.method power hours days high in
+      let level = guarantees e.method supply in
+      let most = guarantees_most e.method supply high in
       let room : holds start fs e.account + level ≤ limit = omega (arith, held_most start fs kept e.account range.0 range.1) in
       says_levelled _ (holds start fs) m e.account e.level level (range_known e.account range.0 range.1) room
       (λ covered. (record { found = ap (entity_in (year fs)) there.1 ∙ is; most = most; covered = covered }, (e, kept.entities.so e there.0, there.1, refl)))
@@ -164,10 +165,10 @@ module _ (start : ℕ → ℕ) (fs : List Fact) (kept : Kept start fs) where
   pub answer : (m : ℕ) (c : Call) → Says (Said start fs c) (judge (year fs) (holds start fs) m c)
   answer m (Begin n security) = judged m (Begin n security) (λ stage _. absurd (both_ways (is_blank (year fs).stage) kept.begun stage))
   answer m (Open a) = judged m (Open a) (λ _ fine. opens m a fine.0)
-  answer m (Certify i a method power hours days) =
-      judged m (Certify i a method power hours days) (λ _ fine. certifies m i a method power hours days fine.1.0 (leb-true power 99999999 fine.1.1.1.0))
-  answer m (Rebalance i power hours days) =
-      judged m (Rebalance i power hours days) (λ _ fine. rebalances m i power hours days (leb-true power 99999999 fine.1.0) (entity_in (year fs) i) refl)
+  answer m (Certify i a method supply) =
+      judged m (Certify i a method supply) (λ _ fine. certifies m i a method supply fine.1.0 (leb-true supply.power 99999999 fine.1.1.1.0))
+  answer m (Rebalance i supply) =
+      judged m (Rebalance i supply) (λ _ fine. rebalances m i supply (leb-true supply.power 99999999 fine.1.0) (entity_in (year fs) i) refl)
   answer m (MakeOffer i s b x) =
       judged m (MakeOffer i s b x) (λ stage fine. offers m i s b x stage fine.1.0 (leb-true 1 x (and_parts (leb 1 x) (leb x limit) fine.1.1.1.0).0))
   answer m (Accept i a) = judged m (Accept i a) (λ stage fine. ends m i a (λ o. o.buyer) (λ _. inr refl) stage fine.1.0 (offer_in (year fs) i) refl)

@@ -44,8 +44,8 @@ first start m (Begin n security) =
     says_unless (GoesOn start [] (Begin n security)) (lowest_holder start 64 1) NotEmpty (Ok Done) (λ a e. tt) (λ none.
     (begins start n security (λ k low high. none_holds start 64 1 none k low (omega arith)), tt)))
 first start m (Open a) = tt
-first start m (Certify i a method power hours days) = tt
-first start m (Rebalance i power hours days) = tt
+first start m (Certify i a method supply) = tt
+first start m (Rebalance i supply) = tt
 first start m (MakeOffer i s b x) = tt
 first start m (Accept i a) = tt
 first start m (Recall i a) = tt

@@ -279,9 +279,9 @@ Reported start fs a w =
 abbrev pub AcceptedSo : (ℕ → ℕ) → List Fact → Call → Reply → Type 0
 AcceptedSo start fs (Begin n security) w = Unit {0}
 AcceptedSo start fs (Open a) w = Unit {0}
-AcceptedSo start fs (Certify i a m p h d) w = Unit {0}
-AcceptedSo start fs (Rebalance i p h d) w =
-    (e : Entity) × Levelled e fs × (e.number ≡ i) × (did (year fs) (Rebalance i p h d) ≡ relevelled e (guarantees e.method p h d))
+AcceptedSo start fs (Certify i a m supply) w = Unit {0}
+AcceptedSo start fs (Rebalance i supply) w =
+    (e : Entity) × Levelled e fs × (e.number ≡ i) × (did (year fs) (Rebalance i supply) ≡ relevelled e (guarantees e.method supply))
 AcceptedSo start fs (MakeOffer i s b x) w = Unit {0}
 AcceptedSo start fs (Accept i a) w = (o : Offer) × Stands o fs × (o.number ≡ i) × (o.buyer ≡ a) × (did (year fs) (Accept i a) ≡ ended o a)
 AcceptedSo start fs (Recall i a) w = (o : Offer) × Stands o fs × (o.number ≡ i) × (o.seller ≡ a) × (did (year fs) (Recall i a) ≡ ended o a)

@@ -4,7 +4,8 @@
 
 ghost use Rattle.law.specs.Law.{Lawful, RefusalsChangeNothing};
 
-// No guarantee is ever booked twice, lost or invented: the law holds at every history whose answers are the judgements.
+// No guarantee is ever booked twice, lost or invented: the law holds at every history whose answers are the
+// judgements.
 pub fn law_stands()
     ensures { Lawful }
 {}

@@ -1,2 +1,1 @@
-mod Moves
-mod Replicas
+mod Folds

@@ -1,4 +1,4 @@
 pub mod Faults
 pub mod Rules
 pub mod Holdings
-pub mod Places
+pub mod Meaning

@@ -1,16 +1,16 @@
-ghost use Rattle.std.specs.Prelude.{◌≡◌, ℕ, ◌≤◌, if◌then◌else◌};
+ghost use Rattle.std.specs.Prelude.{◌≡◌, ℕ, ◌≤◌};
 ghost use Rattle.std.proofs.Common.{lit≤};
-ghost use Rattle.ledger.specs.Rules.{limit, most_posts, known};
-ghost use Rattle.ledger.specs.Holdings.{balances_holding, balances_left};
+ghost use Rattle.ledger.specs.Rules.{limit, most_posts, posting, held_after};
+ghost use Rattle.ledger.specs.Holdings.{balances_holding, balances_left, answered};
 
-use crate::checks::{ACCOUNTS, MOST_POSTS, credited, debited, known_account, postable};
-use crate::{Ledger, LedgerFault};
+use crate::checks::{ACCOUNTS, MOST_POSTS, known_account};
+use crate::{Ledger, LedgerFault, Movement, Side};
 
 // A ledger that keeps the balance of each account, and never runs out of
 // posts.
 #[derive(Drop)]
 pub struct Balances {
-    balances: [u32; ACCOUNTS],
+    balances: [u32; ACCOUNTS as usize],
     // No account holds more than the limit.
     ghost capped: { (k : ℕ) → balances_holding balances k ≤ limit },
 }
@@ -21,20 +21,25 @@ impl Balances {
         ensures holds { (k : ℕ) → balances_holding result.balances k ≡ 0 }
         ensures posts { balances_left result.balances ≡ most_posts }
     {
-        Balances::each(0)
+        Balances {
+            balances: [0; ACCOUNTS as usize],
+        }
     }
 
-    // Every account holds `held`.
-    fn each(held: u32) -> Balances
-        requires { held ≤ limit }
-        ensures { (k : ℕ) → balances_holding result.balances k ≡ (if known k then held else 0) }
+    // Writes what the movement's account holds after it, and answers it.
+    fn post(&mut self, movement: Movement) -> Result<u32, LedgerFault>
+        ensures answer { result ≡ posting (balances_left self.old.balances) movement.account movement.amount (answered movement (balances_holding self.old.balances movement.account)) }
+        ensures holds { (k : ℕ) → balances_holding self.new.balances k ≡ held_after result movement.account (balances_holding self.old.balances) k }
     {
-        Balances {
-            balances: [held; ACCOUNTS],
-        }
+        movement.postable(self.left())?;
+        let at = usize::from(movement.account) - 1;
+        let new = movement.posted(self.balances[at])?;
+        self.balances[at] = new;
+        Ok(new)
     }
 }
 
+// Each side's movement is written out once.
 impl Ledger for Balances {
     ghost holding = { λ s. balances_holding s.balances };
 
@@ -46,7 +51,7 @@ impl Ledger for Balances {
 
     fn ask(&self, account: u8) -> Result<u32, LedgerFault> {
         known_account(account)?;
-        Ok(self.balances[account as usize - 1])
+        Ok(self.balances[usize::from(account) - 1])
     }
 
     fn left(&self) -> u16 {
@@ -54,18 +59,18 @@ impl Ledger for Balances {
     }
 
     fn credit(&mut self, account: u8, amount: u32) -> Result<u32, LedgerFault> {
-        postable(account, amount, self.left())?;
-        let at = account as usize - 1;
-        let raised = credited(account, self.balances[at], amount)?;
-        self.balances[at] = raised;
-        Ok(raised)
+        self.post(Movement {
+            account,
+            amount,
+            side: Side::Credit,
+        })
     }
 
     fn debit(&mut self, account: u8, amount: u32) -> Result<u32, LedgerFault> {
-        postable(account, amount, self.left())?;
-        let at = account as usize - 1;
-        let lowered = debited(account, self.balances[at], amount)?;
-        self.balances[at] = lowered;
-        Ok(lowered)
+        self.post(Movement {
+            account,
+            amount,
+            side: Side::Debit,
+        })
     }
 }

@@ -1,6 +1,8 @@
 ghost use Rattle.std.specs.Prelude.{◌≡◌};
 ghost use Rattle.ledger.specs.Faults.{refusal};
 
+use refusals::Refusal;
+
 // Why a ledger refused (refusals 4.1 to 4.5, the book's own), with the account
 // that it was about.
 #[derive(Clone, Copy, PartialEq, Eq, Debug)]
@@ -17,30 +19,21 @@ pub enum LedgerFault {
     PastLimit(u8),
 }
 
-impl LedgerFault {
-    // The refusal's number after the point: 1 for 4.1.
-    pub fn number(&self) -> u8
-        ensures { result ≡ (refusal self.now).0 }
-    {
-        match self {
-            LedgerFault::NoSuchAccount(_) => 1,
-            LedgerFault::NoAmount(_) => 2,
-            LedgerFault::NoPostsLeft(_) => 3,
-            LedgerFault::BeyondHolding(_) => 4,
-            LedgerFault::PastLimit(_) => 5,
-        }
-    }
+impl From<LedgerFault> for Refusal {
+    ghost from_gives = { λ e r. r ≡ refusal e };
 
-    // The account that the refusal was about.
-    pub fn account(&self) -> u8
-        ensures { result ≡ (refusal self.now).1 }
-    {
-        match self {
-            LedgerFault::NoSuchAccount(account)
-            | LedgerFault::NoAmount(account)
-            | LedgerFault::NoPostsLeft(account)
-            | LedgerFault::BeyondHolding(account)
-            | LedgerFault::PastLimit(account) => *account,
+    fn from(fault: LedgerFault) -> Refusal {
+        let (number, account) = match fault {
+            LedgerFault::NoSuchAccount(account) => (1, account),
+            LedgerFault::NoAmount(account) => (2, account),
+            LedgerFault::NoPostsLeft(account) => (3, account),
+            LedgerFault::BeyondHolding(account) => (4, account),
+            LedgerFault::PastLimit(account) => (5, account),
+        };
+        Refusal {
+            layer: 4,
+            number,
+            place: u16::from(account),
         }
     }
 }

@@ -10,6 +10,7 @@ mod movement;
 mod movements;
 
 pub use balances::Balances;
+pub use checks::{ACCOUNTS, LIMIT, is_account};
 pub use fault::LedgerFault;
 pub use movement::{Movement, Side};
 pub use movements::Movements;

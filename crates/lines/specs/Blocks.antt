@@ -4,12 +4,7 @@ use Rattle.rules.specs.Year.{Year}
 use Rattle.law.specs.Law.{Past}
 use Rattle.law.specs.Told.{Told}
 use Rattle.frames.specs.Frames.{heard}
-use Rattle.lines.specs.declared.buffer.LineBuffer.{LineBuffer}
 use Rattle.lines.specs.Lines.{Heard, GoesOn, answer_line}
-
--- The bytes held of the line that has not ended yet.
-abbrev pub pending : LineBuffer → List ℕ
-pending b = take b.count b.held
 
 -- How everything stands between two bytes: the line so far, the year, the holdings and the posts left.
 pub record State : Type 0 where

@@ -10,7 +10,8 @@ use Rattle.law.specs.Told.{Told, LawfulNext, event}
 use Rattle.frames.specs.declared.fault.LineFault.{LineFault}
 use Rattle.frames.specs.declared.fault.LineFault.TheVariants.{NoSpace, Registry}
 use Rattle.frames.specs.Frames.{heard, and_then}
-use Rattle.frames.specs.Answers.{kind_of_call, answer_bytes, line_of, over}
+use Rattle.frames.specs.Kinds.{kind_of_call}
+use Rattle.frames.specs.Answers.{answer_bytes, line_of, over}
 
 -- The working space has 32 bytes at least, and the answer space 61 from the given place on.
 abbrev pub spaces_fine : List ℕ → List ℕ → ℕ → Bool

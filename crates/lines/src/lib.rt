@@ -8,4 +8,4 @@ pub mod reading;
 
 pub use block::{Progress, answer_block};
 pub use buffer::LineBuffer;
-pub use reading::read_line;
+pub use reading::{WORKING_SPACE, read_line};

@@ -1,5 +1,5 @@
 // Reading one line.
-ghost use Rattle.std.specs.Prelude.{◌≡◌, ℕ, ◌+◌, ◌≤◌, List, length, replicate, IfOk};
+ghost use Rattle.std.specs.Prelude.{◌≡◌, ℕ, ◌+◌, ◌≤◌, length, replicate, IfOk};
 ghost use Rattle.law.specs.Law.{Past};
 ghost use Rattle.law.specs.Told.{Told};
 ghost use Rattle.frames.specs.Frames.{heard};
@@ -12,7 +12,7 @@ use registry::Book;
 use rules::Reply;
 
 // The longest frame, in bytes.
-const WORKING_SPACE: usize = 32;
+pub const WORKING_SPACE: usize = 32;
 // The longest answer line: 30 bytes in digits, and byte 10.
 const ANSWER_SPACE: usize = 61;
 
@@ -30,8 +30,9 @@ impl Drop for WorkingSpace<'_> {
     }
 }
 
-// Reads a line, makes its call on the book and the ledger, and writes the answer line into the answer space from `at` on.
-// Gives the length of the answer line.
+// Reads a line, makes its call on the book and the ledger, and writes the answer line into the answer
+// space from `at` on. Gives the length of the answer line. Book and ledger are two, since a host may ask
+// its ledger between calls.
 pub fn read_line<L: Ledger>(
     book: &mut Book<'_>,
     ledger: &mut L,
@@ -53,7 +54,8 @@ pub fn read_line<L: Ledger>(
     Ok(write_line(answers, at, &answer_frame(said)))
 }
 
-// Makes the call that a line writes; the working space is cleared on every way out.
+// Makes the call that a line writes, and gives its kind byte with the reply; the working space, which is
+// long enough, is cleared on every way out.
 fn hear<L: Ledger>(
     book: &mut Book<'_>,
     ledger: &mut L,

@@ -2,21 +2,16 @@
 
 #![tactic(auto)]
 
-ghost use Rattle.std.specs.Prelude.{◌≡◌, ℕ, ◌+◌, ◌-◌, ◌≤◌, true, not, length, is_ok, if◌then◌else◌, None, sum_by, ◌==◌, nat_eq, nat_le};
+ghost use Rattle.std.specs.Prelude.{◌≡◌, ℕ, ◌+◌, ◌-◌, ◌≤◌, true, not, length, is_ok, if◌then◌else◌, None, sum_by, ◌==◌, nat_le};
 ghost use Rattle.ledger.specs.Rules.{known, limit};
 ghost use Rattle.rules.specs.Records.{offered_amount};
 ghost use Rattle.rules.specs.Facts.{to, returned_to};
 ghost use Rattle.rules.specs.Judgement.{lowest_holder, levelling, first_without_room};
 ghost use Rattle.postings.specs.Offers.{Real};
 
-use ledger::Ledger;
+use ledger::{ACCOUNTS, LIMIT, Ledger};
 use registers::total;
 use rules::{Offer, RegistryFault, Reply};
-
-// The accounts are 1 to 64.
-const ACCOUNTS: u8 = 64;
-// The most that an account may hold.
-const LIMIT: u128 = 99_999_999;
 
 // The lowest account that holds something.
 pub fn lowest_holder<L: Ledger>(ledger: &L) -> Option<u8>
@@ -30,7 +25,8 @@ pub fn lowest_holder<L: Ledger>(ledger: &L) -> Option<u8>
     None
 }
 
-// Posts the difference between an old level and a new one: a raise is credited, a cut debited, no difference posts nothing.
+// Posts the difference between an old level and a new one: a raise is credited, a cut debited, no
+// difference posts nothing.
 pub fn change_level<L: Ledger>(
     ledger: &mut L,
     account: u8,
@@ -39,7 +35,7 @@ pub fn change_level<L: Ledger>(
 ) -> Result<Reply, RegistryFault>
     ensures answer { result ≡ levelling (L.Ledger.holding ledger.old) (L.Ledger.posts ledger.old) account old new }
     ensures holds { (k : ℕ) → L.Ledger.holding ledger.new k ≡ (if is_ok result then (L.Ledger.holding ledger.old k + to account (new - old) k) - to account (old - new) k else L.Ledger.holding ledger.old k) }
-    ensures posts { (L.Ledger.posts ledger.new ≤ L.Ledger.posts ledger.old) × (L.Ledger.posts ledger.old ≤ L.Ledger.posts ledger.new + (if is_ok result then (if nat_eq new old then 0 else 1) else 0)) }
+    ensures posts { (L.Ledger.posts ledger.new ≤ L.Ledger.posts ledger.old) × (L.Ledger.posts ledger.old ≤ L.Ledger.posts ledger.new + (if is_ok result then (if new == old then 0 else 1) else 0)) }
 {
     if new > old {
         ledger.credit(account, new - old)?;
@@ -81,10 +77,7 @@ fn holds_some<L: Ledger>(ledger: &L, account: u8) -> bool
     requires { known account ≡ true }
     ensures { result ≡ not (L.Ledger.holding ledger.now account == 0) }
 {
-    match ledger.ask(account) {
-        Ok(held) => held != 0,
-        Err(_) => false,
-    }
+    ledger.ask(account).is_ok_and(|held| held != 0)
 }
 
 // Whether an account has room for so many guarantees more.
@@ -92,8 +85,7 @@ fn has_room<L: Ledger>(ledger: &L, account: u8, more: u128) -> bool
     requires { known account ≡ true }
     ensures { result ≡ nat_le (L.Ledger.holding ledger.now account + more) limit }
 {
-    match ledger.ask(account) {
-        Ok(held) => more <= LIMIT - u128::from(held),
-        Err(_) => false,
-    }
+    ledger
+        .ask(account)
+        .is_ok_and(|held| more <= u128::from(LIMIT - held))
 }

@@ -12,10 +12,6 @@ pub all_member : {R : Type 0} (P : R → Type 0) (xs : List R) (x : R) → AllBy
 all_member P [] x h m = absurd m
 all_member P (y ∷ ys) x h m = ⊎_elim (λ e. subst P (sym e) h.0) (λ t. all_member P ys x h.1 t) m
 
--- No record is found and not found.
-no_record : {R : Type 0} {x : R} → None ≡ Some x → ⊥
-no_record e = let z : ◌≡◌ {A = ℕ} 0 1 = cc in omega arith
-
 -- A new alternative, past one that was there.
 past : {A B P Q : Type 0} → A ↔ (P ⊎ B) → (Q ⊎ A) ↔ (P ⊎ (Q ⊎ B))
 past h = (⊎_elim (λ q. inr (inl q)) (λ a. ⊎_elim inl (λ b. inr (inr b)) (h.0 a)), ⊎_elim (λ p. inr (h.1 (inl p))) (⊎_elim inl (λ b. inr (h.1 (inr b)))))
@@ -25,12 +21,12 @@ module _ {R : Type 0} (key : R → ℕ) where
   member_later x y ys h t = all_member _ ys x h.0 t
 
   pub lookup_has : (n : ℕ) (xs : List R) (x : R) → lookup key n xs ≡ Some x → Member x xs × (key x ≡ n)
-  lookup_has n [] x = λ found. absurd (no_record found)
+  lookup_has n [] x = λ found. absurd cc
   lookup_has n (y ∷ ys) x =
       by_order key (λ o. o ≡ Some x → Member x (y ∷ ys) × (key x ≡ n)) y n _ _ _
       (λ _ found. let there = lookup_has n ys x found in (inr there.0, there.1))
       (λ same found. let e : x ≡ y = cc in (inl e, ap key e ∙ same))
-      (λ _ found. absurd (no_record found))
+      (λ _ found. absurd cc)
 
   pub lookup_member : (n : ℕ) (xs : List R) (x : R) → Rising key xs → Member x xs → key x ≡ n → lookup key n xs ≡ Some x
   lookup_member n [] x h m at = absurd m
@@ -54,7 +50,7 @@ module _ {R : Type 0} (key : R → ℕ) where
       (λ high. (λ m. (m, λ at. ⊎_elim (λ e. omega (arith, ap key e)) (λ t. omega (arith, member_later x y ys h t)) m), λ q. q.0))
 
   pub member_replaced : (r : R) (xs : List R) (old x : R) → Rising key xs → lookup key (key r) xs ≡ Some old → Member x (replaced key r xs) ↔ ((x ≡ r) ⊎ (Member x xs × (key x ≢ key r)))
-  member_replaced r [] old x h found = absurd (no_record found)
+  member_replaced r [] old x h found = absurd cc
   member_replaced r (y ∷ ys) old x h found =
       by_order key (λ zs. Member x zs ↔ ((x ≡ r) ⊎ (Member x (y ∷ ys) × (key x ≢ key r)))) y (key r) _ _ _
       (λ low.
@@ -62,7 +58,7 @@ module _ {R : Type 0} (key : R → ℕ) where
       let ih = member_replaced r ys old x h.1 further in
       (⊎_elim (λ e. inr (inl e, λ at. omega (arith, ap key e))) (λ t. ⊎_elim inl (λ q. inr (inr q.0, q.1)) (ih.0 t)), ⊎_elim (λ e. inr (ih.1 (inl e))) (λ q. ⊎_elim inl (λ t. inr (ih.1 (inr (t, q.1)))) q.0)))
       (λ same. (⊎_elim inl (λ t. inr (inr t, λ at. omega (arith, member_later x y ys h t))), ⊎_elim inl (λ q. ⊎_elim (λ e. absurd (q.1 (ap key e ∙ same))) inr q.0)))
-      (λ high. let none : None ≡ Some old = grind (arith, nat_tests) in absurd (no_record none))
+      (λ high. let none : None ≡ Some old = grind (arith, nat_tests) in absurd cc)
 
   -- No number up to m is found where each is above m.
   lookup_above : (n m : ℕ) (xs : List R) → n ≤ m → Above key m xs → lookup key n xs ≡ None
@@ -81,7 +77,7 @@ module _ {R : Type 0} (key : R → ℕ) where
       grind (arith, nat_tests)
 
   pub lookup_replaced : (n : ℕ) (r : R) (xs : List R) (old : R) → lookup key (key r) xs ≡ Some old → lookup key n (replaced key r xs) ≡ cond (eqb (key r) n) (Some r) (lookup key n xs)
-  lookup_replaced n r [] old found = absurd (no_record found)
+  lookup_replaced n r [] old found = absurd cc
   lookup_replaced n r (x ∷ xs) old found = let ih = lookup_replaced n r xs old in grind (arith, nat_tests)
 
   -- A record with a number above the first is among the others.

@@ -1,7 +1,7 @@
 -- What each change keeps: what holds of every record, the order, and the range of the numbers.
 use Rattle.std.proofs.Common.{◌≡◌, ℕ, ◌<◌, ◌≤◌, ltb, List, [], ◌∷◌, None, arith}
 use Rattle.std.specs.List.{AllByRecursion}
-use Rattle.std.proofs.ByRecursion.{All-weaker}
+use Rattle.std.proofs.lemmas.List.Elements.{All-from_recursion, recursion_from_All}
 use Rattle.std.proofs.lemmas.Bool.{cond_both, ltb-true}
 use Rattle.std.proofs.lemmas.Bool.Decides.{nat_tests}
 use Rattle.registers.specs.Rows.{Above, Rising, Numbered, lookup, inserted, without, replaced}
@@ -22,7 +22,7 @@ module _ {R : Type 0} (key : R → ℕ) where
   all_replaced P r (x ∷ xs) new h = by_order key (AllByRecursion P) x (key r) _ _ _ (λ _. (h.0, all_replaced P r xs new h.1)) (λ e. (new x e h.0, h.1)) (λ _. h)
 
   above_less : (m n : ℕ) (xs : List R) → m ≤ n → Above key n xs → Above key m xs
-  above_less m n xs le h = All-weaker _ _ (λ x lt. omega arith) xs h
+  above_less m n xs le h = recursion_from_All _ xs (λ k d lt. omega (arith, All-from_recursion _ xs h k d lt))
 
   pub rising_inserted : (r : R) (xs : List R) → Rising key xs → lookup key (key r) xs ≡ None → Rising key (inserted key r xs)
   rising_inserted r [] h none = (tt, tt)

@@ -1,13 +1,9 @@
 -- What the search for a number tells of the records.
-use Rattle.std.specs.Prelude.{◌≡◌, ℕ, ◌<◌, ◌≤◌, true, List, length, is_some, Some, None, nat_lt, slice_index_or, slice_set}
-use Rattle.std.specs.List.{insert as opened, remove as closed, prefix_len}
+use Rattle.std.specs.Prelude.{◌≡◌, ℕ, ◌<◌, ◌≤◌, true, List, length, is_some, Some, None, slice_index_or, slice_set}
+use Rattle.std.specs.List.{insert as opened, remove as closed}
 use Rattle.registers.specs.Rows.{lookup, inserted, without, replaced}
 
 module _ {R : Type 0} (key : R → ℕ) where
-  -- How many records at the front have a number below n.
-  abbrev pub rank : ℕ → List R → ℕ
-  rank n xs = prefix_len (λ x. nat_lt (key x) n) xs
-
   -- The record with the number n stands at the place i.
   pub record Stands (n i : ℕ) (xs : List R) : Type 0 where
     pub within : i < length xs

@@ -3,10 +3,13 @@
 #![tactic(auto)]
 
 ghost use Rattle.std.specs.Prelude.{◌≡◌, ℕ};
+ghost use Rattle.places.specs.Held.{items};
+ghost use Rattle.registers.specs.Rows.{Rising};
+
+use places::Places;
 
 mod laws;
 mod methods;
-mod rows;
 mod totals;
 
 pub use laws::{
@@ -33,15 +36,16 @@ pub trait Amount: Keyed {
 }
 
 // Why a record is not taken in.
-#[derive(Clone, Copy)]
+#[derive(Clone, Copy, PartialEq, Eq, Debug)]
 pub enum RegisterFault {
     InUse,
     Full,
 }
 
-// The records stand in the first `used` places, in strictly rising order of number.
+// The records stand in lent places.
 #[derive(Drop)]
-pub struct Register<'a, R> {
-    places: &'a mut [R],
-    used: usize,
+pub struct Register<'a, R: Keyed> {
+    places: Places<'a, R>,
+    // Their numbers rise strictly.
+    ghost rising: { ∥ Rising R.key (items places) ∥₁ },
 }

@@ -1,20 +1,22 @@
 // The register's methods.
-ghost use Rattle.std.specs.Prelude.{◌≡◌, ◌<◌, ◌≤◌, [], length, is_ok, if◌then◌else◌, MatchResult};
+ghost use Rattle.std.specs.Prelude.{◌≡◌, ◌≤◌, [], length, is_ok, is_some, if◌then◌else◌, MatchResult};
 ghost use Rattle.registers.specs.Held.{rows, room, entering};
 ghost use Rattle.registers.specs.Places.{Stands, Enters};
 ghost use Rattle.registers.specs.Rows.{lookup, inserted, without, replaced};
 
-use crate::rows::{close, front, open, place, put};
 use crate::{Keyed, Register, RegisterFault};
+use places::Places;
 
 impl<'a, R: Keyed> Register<'a, R> {
     // No record, and every place free.
     pub fn new(places: &'a mut [R]) -> Register<'a, R>
         ensures after { rows result ≡ [] }
         ensures unchanged { room result ≡ length places.old }
-        ensures lent { result.places.ghost_name ≡ places.entry.ghost_name }
+        ensures lent { result.places.lent.ghost_name ≡ places.entry.ghost_name }
     {
-        Register { places, used: 0 }
+        Register {
+            places: Places::new(places),
+        }
     }
 
     // How many records there are.
@@ -22,7 +24,7 @@ impl<'a, R: Keyed> Register<'a, R> {
         ensures answer { result ≡ length (rows self.now) }
         ensures bound { result ≤ room self.now }
     {
-        self.records().len()
+        self.places.len()
     }
 
     // The records, in their order.
@@ -30,17 +32,22 @@ impl<'a, R: Keyed> Register<'a, R> {
         ensures answer { result.now ≡ rows self.now }
         ensures bound { length result.now ≤ room self.now }
     {
-        front(self.places, self.used)
+        self.places.as_slice()
+    }
+
+    // Whether a record has the number.
+    pub fn contains(&self, number: u16) -> bool
+        ensures { result ≡ is_some (lookup R.key number (rows self.now)) }
+    {
+        self.seek(number).is_ok()
     }
 
     // The record with the number.
     pub fn find(&self, number: u16) -> Option<R>
         ensures { result ≡ lookup R.key number (rows self.now) }
     {
-        match self.seek(number) {
-            Ok(at) => Some(self.records()[at]),
-            Err(_) => None,
-        }
+        let at = self.seek(number).ok()?;
+        Some(self.records()[at])
     }
 
     // Puts the record in its place, unless its number is in use or no place is free.
@@ -48,20 +55,16 @@ impl<'a, R: Keyed> Register<'a, R> {
         ensures answer { result ≡ entering R.key «record» (room self.old) (rows self.old) }
         ensures after { rows self.new ≡ (if is_ok result then inserted R.key «record» (rows self.old) else rows self.old) }
         ensures unchanged { room self.new ≡ room self.old }
-        ensures lent { self.new.places.ghost_name ≡ self.old.places.ghost_name }
+        ensures lent { self.new.places.lent.ghost_name ≡ self.old.places.lent.ghost_name }
     {
-        match self.seek(record.number()) {
-            Ok(_) => Err(RegisterFault::InUse),
-            Err(at) => {
-                let len = self.len();
-                if len == self.places.len() {
-                    return Err(RegisterFault::Full);
-                }
-                open(self.places, len, at, record);
-                self.used = len + 1;
-                Ok(())
-            }
+        let Err(at) = self.seek(record.number()) else {
+            return Err(RegisterFault::InUse);
+        };
+        if self.places.is_full() {
+            return Err(RegisterFault::Full);
         }
+        self.places.insert(at, record);
+        Ok(())
     }
 
     // Takes the record with the number out, so that its place serves again.
@@ -69,18 +72,10 @@ impl<'a, R: Keyed> Register<'a, R> {
         ensures answer { result ≡ lookup R.key number (rows self.old) }
         ensures after { rows self.new ≡ without R.key number (rows self.old) }
         ensures unchanged { room self.new ≡ room self.old }
-        ensures lent { self.new.places.ghost_name ≡ self.old.places.ghost_name }
+        ensures lent { self.new.places.lent.ghost_name ≡ self.old.places.lent.ghost_name }
     {
-        match self.seek(number) {
-            Ok(at) => {
-                let len = self.len();
-                let record = self.records()[at];
-                close(self.places, len, at);
-                self.used = len - 1;
-                Some(record)
-            }
-            Err(_) => None,
-        }
+        let at = self.seek(number).ok()?;
+        Some(self.places.remove(at))
     }
 
     // Puts the record in the place of the one with its number, which it hands back.
@@ -88,38 +83,25 @@ impl<'a, R: Keyed> Register<'a, R> {
         ensures answer { result ≡ lookup R.key (R.key «record») (rows self.old) }
         ensures after { rows self.new ≡ replaced R.key «record» (rows self.old) }
         ensures unchanged { room self.new ≡ room self.old }
-        ensures lent { self.new.places.ghost_name ≡ self.old.places.ghost_name }
+        ensures lent { self.new.places.lent.ghost_name ≡ self.old.places.lent.ghost_name }
     {
-        match self.seek(record.number()) {
-            Ok(at) => {
-                let old = self.records()[at];
-                put(self.places, at, record);
-                Some(old)
-            }
-            Err(_) => None,
-        }
+        let at = self.seek(record.number()).ok()?;
+        Some(self.places.replace(at, record))
     }
 
     // Takes every record out.
     pub fn clear(&mut self)
         ensures after { rows self.new ≡ [] }
         ensures unchanged { room self.new ≡ room self.old }
-        ensures lent { self.new.places.ghost_name ≡ self.old.places.ghost_name }
+        ensures lent { self.new.places.lent.ghost_name ≡ self.old.places.lent.ghost_name }
     {
-        self.used = 0;
+        self.places.clear();
     }
 
     // The place of the record with the number, or the one that it would take.
     fn seek(&self, number: u16) -> Result<usize, usize>
-        ensures answer { MatchResult result (λ i. Stands R.key number i (rows self.now)) (λ i. Enters R.key number i (rows self.now)) }
-        ensures bound { MatchResult result (λ i. i < room self.now) (λ i. i ≤ room self.now) }
+        ensures { MatchResult result (λ i. Stands R.key number i (rows self.now)) (λ i. Enters R.key number i (rows self.now)) }
     {
-        let records = self.records();
-        let at = place(records, number);
-        if at < records.len() && records[at].number() == number {
-            Ok(at)
-        } else {
-            Err(at)
-        }
+        self.records().binary_search_by_key(&number, |r| r.number())
     }
 }

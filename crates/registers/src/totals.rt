@@ -7,9 +7,5 @@ use crate::Amount;
 pub fn total<R: Amount>(records: &[R]) -> u128
     ensures { result ≡ sum_by R.worth records.now }
 {
-    let mut sum: u128 = 0;
-    for x in records {
-        sum += u128::from(x.amount());
-    }
-    sum
+    records.iter().map(|r| u128::from(r.amount())).sum()
 }

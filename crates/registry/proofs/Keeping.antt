@@ -1,41 +1,29 @@
 -- What the state keeps through the calls.
-use Rattle.std.proofs.Common.{◌≡◌, ℕ, ◌<◌, ◌≤◌, Bool, true, false, cond, ◌&&◌, leb, List, [], ◌∷◌, length, is_some, is_ok, Some, None, Ok, Err, Option, Result, sym, refl, ap, ◌∙◌, subst, arith}
+use Rattle.std.proofs.Common.{◌≡◌, ℕ, ◌<◌, ◌≤◌, Bool, true, false, cond, leb, List, length, is_some, is_ok, Some, None, Ok, Err, Option, Result, sym, refl, ap, ◌∙◌, subst, arith, lit≤}
+use mathlib.Core.Logic.{∥∥₁_elim}
+use native.Mathlib.Bridge.{le_prop}
 use Rattle.std.specs.List.{AllByRecursion}
+use Rattle.std.specs.Option.{ok_or}
 use Rattle.std.proofs.ByRecursion.{All-weaker}
-use Rattle.std.proofs.lemmas.Bool.{eqb-true, leb-true, and_parts}
-use Rattle.curves.specs.Ranges.{within, judged}
+use Rattle.std.proofs.lemmas.Bool.{leb-true, and_parts}
+use Rattle.curves.specs.Ranges.{within}
 use Rattle.ledger.specs.Rules.{known, limit}
 use Rattle.registers.specs.declared.RegisterFault.{RegisterFault}
-use Rattle.registers.specs.declared.RegisterFault.TheVariants.{InUse}
+use Rattle.registers.specs.declared.RegisterFault.TheVariants.{InUse, Full}
 use Rattle.registers.specs.Rows.{Numbered, lookup, inserted, without}
 use Rattle.registers.specs.Held.{entering}
 use Rattle.registers.proofs.Members.{lookup_has}
 use Rattle.registers.proofs.Order.{all_inserted, all_without}
 use Rattle.registers.proofs.Entries.{taken_in as entry_accepted, numbered_entered, by_entry, never_full}
-use Rattle.rules.specs.declared.calls.Stage.{Stage}
-use Rattle.rules.specs.declared.calls.Stage.TheVariants.{Blank, Trading, Closed, Settled}
 use Rattle.rules.specs.declared.records.Account.{Account}
 use Rattle.rules.specs.declared.records.Offer.{Offer}
 use Rattle.rules.specs.Records.{account_number, offer_number}
 use Rattle.postings.specs.Offers.{Real}
 use Rattle.rules.specs.Facts.{new_account}
-use Rattle.accounts.specs.Bounds.{Bounded, Kept, Terms}
-use Rattle.registry.specs.State.{terms_kept}
-
--- a blank book has no half-hours
-pub no_half_hours : (s : Stage) (n security : ℕ) → s ≡ Blank → terms_kept s n security ≡ true → n ≡ 0
-no_half_hours s n security is kept = eqb-true n 0 (sym (ap (λ (t : Stage). terms_kept t n security) is) ∙ kept)
-
-pub terms_fine : (n security : ℕ) → judged 1 (within 1 400 n ∷ leb security 2000 ∷ []) (tt {0}) ≡ Ok tt → (within 1 400 n && leb security 2000) ≡ true
-terms_fine n security e = go (within 1 400 n) (leb security 2000) e
-  where
-    go : (a b : Bool) → judged 1 (a ∷ b ∷ []) (tt {0}) ≡ Ok tt → (a && b) ≡ true
-    go true true e = refl
-    go true false e = absurd (let z : ◌≡◌ {A = ℕ} 0 1 = cc in omega arith)
-    go false b e = absurd (let z : ◌≡◌ {A = ℕ} 0 1 = cc in omega arith)
-
-in_terms : (n security : ℕ) → (within 1 400 n && leb security 2000) ≡ true → n ≤ 400
-in_terms n security kept = leb-true n 400 (and_parts (leb 1 n) (leb n 400) (and_parts (within 1 400 n) (leb security 2000) kept).0).1
+use Rattle.accounts.specs.Bounds.{Bounded, Kept}
+use Rattle.registry.specs.declared.phase.Phase.{Phase}
+use Rattle.registry.specs.declared.phase.Phase.TheVariants.{Blank as IsBlank, Trading as IsTrading, Closed as IsClosed, Settled as IsSettled}
+use Rattle.registry.specs.Phases.{half_hours_of}
 
 -- what held of no half-hours holds of more
 pub kept_longer : (m n : ℕ) (accounts : List Account) → m ≤ n → Kept m accounts → Kept n accounts
@@ -71,6 +59,25 @@ refused_in_use a new places xs fault fresh is all numbered answer =
     go true e = refl
     go false e = absurd (let z : ◌≡◌ {A = ℕ} 0 1 = cc in omega arith)
 
+-- and never for want of a place
+never_full_of_accounts : (a : ℕ) (new : Account) (places : ℕ) (xs : List Account) → new ≡ new_account a → known a ≡ true → places ≡ 64 → Numbered account_number 64 xs → Err Full ≡ entering account_number new places xs → 1 ≤ 0
+never_full_of_accounts a new places xs fresh is all numbered answer =
+    let range = known_range a is in
+    let same : account_number new ≡ a = ap account_number fresh in
+    let low : 0 < account_number new = omega (arith, same, range.0) in
+    let high : account_number new ≤ 64 = omega (arith, same, range.1) in
+    go (is_some (lookup account_number (account_number new) xs)) (answer ∙ ap (λ (n : ℕ). entering account_number new n xs) all ∙ never_full account_number 64 new xs numbered low high)
+  where
+    go : (b : Bool) → Err Full ≡ cond b (Err InUse) (Ok (tt {0})) → 1 ≤ 0
+    go true e = absurd (let z : ◌≡◌ {A = ℕ} 0 1 = cc in omega arith)
+    go false e = absurd (let z : ◌≡◌ {A = ℕ} 0 1 = cc in omega arith)
+
+pub in_use_only : (n a : ℕ) (new : Account) (places : ℕ) (xs : List Account) (fault : RegisterFault) → new ≡ new_account a → known a ≡ true → places ≡ 64 → ∥ Kept n xs ∥₁ → Err fault ≡ entering account_number new places xs → fault ≡ InUse
+in_use_only n a new places xs InUse fresh is all kept answer = refl
+in_use_only n a new places xs Full fresh is all kept answer =
+    let none : 1 ≤ 0 = ∥∥₁_elim kept le_prop (λ k. never_full_of_accounts a new places xs fresh is all k.0 answer) in
+    absurd (omega (arith, none))
+
 none_found : {X : Type 0} (o : Option X) → is_some o ≡ false → o ≡ None
 none_found None e = refl
 none_found (Some x) e = absurd (let z : ◌≡◌ {A = ℕ} 0 1 = cc in omega arith)
@@ -91,25 +98,17 @@ real_inserted o places xs ys r is some answer after real =
     by_entry offer_number Real o places xs ys r answer after real (λ _ _. all_inserted offer_number (λ o. (known o.seller ≡ true) × (1 ≤ o.amount)) o xs (is, amount) real)
 
 -- never more than 400 half-hours
-pub half_hours_most : (s : Stage) (n security : ℕ) → terms_kept s n security ≡ true → n ≤ 400
-half_hours_most Blank n security kept = let none = eqb-true n 0 kept in omega (arith, none)
-half_hours_most Trading n security kept = in_terms n security kept
-half_hours_most Closed n security kept = in_terms n security kept
-half_hours_most Settled n security kept = in_terms n security kept
-
-all_terms : (n security : ℕ) → (within 1 400 n && leb security 2000) ≡ true → Terms n security
-all_terms n security kept =
-    let both = and_parts (within 1 400 n) (leb security 2000) kept in
-    let ends = and_parts (leb 1 n) (leb n 400) both.0 in
-    (leb-true 1 n ends.0, leb-true n 400 ends.1, leb-true security 2000 both.1)
-
--- the terms of a year that is closed or settled
-pub terms_closed : (s : Stage) (n security : ℕ) → s ≡ Closed → terms_kept s n security ≡ true → Terms n security
-terms_closed s n security is kept = all_terms n security (sym (ap (λ (t : Stage). terms_kept t n security) is) ∙ kept)
-
-pub terms_settled : (s : Stage) (n security : ℕ) → s ≡ Settled → terms_kept s n security ≡ true → Terms n security
-terms_settled s n security is kept = all_terms n security (sym (ap (λ (t : Stage). terms_kept t n security) is) ∙ kept)
+pub half_hours_most : (p : Phase) → half_hours_of p ≤ 400
+half_hours_most IsBlank = lit≤ tt
+half_hours_most (IsTrading terms) = terms.n_most
+half_hours_most (IsClosed terms) = terms.n_most
+half_hours_most (IsSettled terms prices) = terms.n_most
 
 -- an account that was found is found by its own number
 pub found_by_number : (n : ℕ) (xs : List Account) (x : Account) → Some x ≡ lookup account_number n xs → lookup account_number x.number xs ≡ Some x
 found_by_number n xs x found = ap (λ (k : ℕ). lookup account_number k xs) (lookup_has account_number n xs x (sym found)).1 ∙ sym found
+
+-- what an answer says of what was asked for
+pub some_if_ok : {A E : Type 0} (o : Option A) (x : A) (e : E) → Ok x ≡ ok_or o e → o ≡ Some x
+some_if_ok None x e is = absurd (let z : ◌≡◌ {A = ℕ} 0 1 = cc in omega arith)
+some_if_ok (Some y) x e is = let same : x ≡ y = cc in ap Some (sym same)

@@ -1,2 +1,3 @@
-pub mod State
+pub mod Phases
+pub mod Ranges
 pub mod Model

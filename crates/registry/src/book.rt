@@ -1,37 +1,38 @@
-// A new book, and the eleven calls by their names. Each is made in the stage that it needs.
-ghost use Rattle.std.specs.Prelude.{◌≡◌, ℕ, ◌+◌, ◌≤◌, true, ◌||◌, is_some, is_ok, if◌then◌else◌, Some, sum_by};
+// A new book, and the calls by their names. What a call promises, it promises in the stage that it needs.
+ghost use Rattle.std.specs.Prelude.{◌≡◌, ℕ, sum_by};
 ghost use Rattle.rules.specs.Records.{certified_level, offered_amount};
-ghost use Rattle.rules.specs.Year.{blank_year, is_open, is_trading, is_closed, entity_in, offer_in};
-ghost use Rattle.rules.specs.Facts.{new_account, after, ended, to};
+ghost use Rattle.std.specs.Option.{ok_or};
+ghost use Rattle.rules.specs.Year.{blank_year, account_in, is_open};
+ghost use Rattle.rules.specs.Facts.{new_account};
 ghost use Rattle.rules.specs.Calls.{Called};
-ghost use Rattle.rules.specs.Judgement.{ending};
-ghost use Rattle.registry.specs.Model.{year_in};
+ghost use Rattle.registry.specs.Phases.{half_hours_of, ending_call};
+ghost use Rattle.registry.specs.Model.{year_in, CalledInStage};
 
+use crate::phase::{Party, Phase};
 use crate::ranges::{
     account_in_range, certify_in_range, ending_in_range, offer_in_range, prices_in_range,
-    rebalance_in_range, terms_in_range,
+    rebalance_in_range,
 };
 use crate::state::Book;
-use accounts::{
-    Prices, YearTerms, first_incomplete, load_in_range, settlement, statement, with_step,
-};
-use curves::Step;
-use ledger::{Ledger, LedgerFault};
+use accounts::{OpenAccounts, first_incomplete, load_in_range, with_step};
+use curves::{Step, Supply, YearTerms};
+use ledger::{ACCOUNTS, Ledger, LedgerFault};
 use postings::{change_level, first_without_room, give_back, lowest_holder};
 use registers::{Register, total};
-use rules::{Account, Call, Entity, Offer, RegistryFault, Reply, Series, Stage};
+use rules::{Account, Call, Entity, Offer, RegistryFault, Reply, Stage};
+use settlement::sheet::Prices;
 
 // The places of the register of entities.
-const ENTITIES: usize = 64;
+pub const ENTITIES: usize = 64;
 // The places of the register of offers.
-const OFFERS: usize = 32;
+pub const OFFERS: usize = 32;
 
 impl<'a> Book<'a> {
     // A blank book, without records, in the places that are lent to it.
     pub fn new(
-        accounts: &'a mut [Account; 64],
-        entities: &'a mut [Entity; 64],
-        offers: &'a mut [Offer; 32],
+        accounts: &'a mut [Account; ACCOUNTS as usize],
+        entities: &'a mut [Entity; ENTITIES],
+        offers: &'a mut [Offer; OFFERS],
     ) -> Book<'a>
         ensures { year_in result ≡ blank_year }
     {
@@ -39,15 +40,17 @@ impl<'a> Book<'a> {
         let entities = Register::new(entities);
         let offers = Register::new(offers);
         Book {
-            stage: Stage::Blank,
-            n: 0,
-            security: 0,
-            shortage: 0,
-            surplus: 0,
+            phase: Phase::Blank,
             accounts,
             entities,
             offers,
         }
+    }
+
+    pub fn stage(&self) -> Stage
+        ensures { result ≡ (year_in self.now).stage }
+    {
+        self.phase.stage()
     }
 
     // The levels of all entities together: by the law, the guarantees on all accounts and under all offers.
@@ -71,49 +74,42 @@ impl<'a> Book<'a> {
         n: u16,
         security: u16,
     ) -> Result<Reply, RegistryFault>
-        requires { self.old.stage ≡ Stage.Blank }
+        requires { self.old.phase ≡ Phase.Blank }
         ensures { Called (Call.Begin n security) result (year_in self.old) (year_in self.new) (L.Ledger.holding ledger.now) (L.Ledger.holding ledger.now) (L.Ledger.posts ledger.now) (L.Ledger.posts ledger.now) }
     {
-        terms_in_range(n, security)?;
+        let terms = YearTerms::new(n, security)?;
         if let Some(account) = lowest_holder(ledger) {
             return Err(RegistryFault::NotEmpty { account });
         }
-        self.n = n;
-        self.security = security;
-        self.stage = Stage::Trading;
+        self.phase = Phase::Trading(terms);
         Ok(Reply::Done)
     }
 
     pub(crate) fn open(&mut self, account: u8) -> Result<Reply, RegistryFault>
-        requires { self.old.stage ≡ Stage.Trading }
-        ensures { (f : ℕ → ℕ) (m : ℕ) → Called (Call.Open account) result (year_in self.old) (year_in self.new) f f m m }
+        ensures { (f : ℕ → ℕ) (m : ℕ) → CalledInStage (Call.Open account) result (year_in self.old) (year_in self.new) f f m m }
     {
         account_in_range(account, 1)?;
-        match self.accounts.insert(new_account(account)) {
-            Ok(()) => Ok(Reply::Done),
-            Err(_) => Err(RegistryFault::InUse { field: 1 }),
-        }
+        self.accounts.insert(new_account(account))?;
+        Ok(Reply::Done)
     }
 
+    // The fields are as the call has them, and not yet judged.
     pub(crate) fn certify<L: Ledger>(
         &mut self,
         ledger: &mut L,
         entity: u16,
         account: u8,
         method: u8,
-        power: u32,
-        hours: u8,
-        days: u16,
+        supply: Supply,
     ) -> Result<Reply, RegistryFault>
-        requires { self.old.stage ≡ Stage.Trading }
-        ensures { Called (Call.Certify entity account method power hours days) result (year_in self.old) (year_in self.new) (L.Ledger.holding ledger.old) (L.Ledger.holding ledger.new) (L.Ledger.posts ledger.old) (L.Ledger.posts ledger.new) }
+        ensures { CalledInStage (Call.Certify entity account method supply) result (year_in self.old) (year_in self.new) (L.Ledger.holding ledger.old) (L.Ledger.holding ledger.new) (L.Ledger.posts ledger.old) (L.Ledger.posts ledger.new) }
     {
-        let method = certify_in_range(entity, account, method, power, hours, days)?;
-        let level = method.level(power, hours, days);
+        let method = certify_in_range(entity, account, method, supply)?;
+        let level = method.level(supply);
         if !self.is_open(account) {
             return Err(RegistryFault::NotOpen { field: 2 });
         }
-        if self.has_entity(entity) {
+        if self.entities.contains(entity) {
             return Err(RegistryFault::InUse { field: 1 });
         }
         if self.entities.len() >= ENTITIES {
@@ -134,18 +130,16 @@ impl<'a> Book<'a> {
         &mut self,
         ledger: &mut L,
         entity: u16,
-        power: u32,
-        hours: u8,
-        days: u16,
+        supply: Supply,
     ) -> Result<Reply, RegistryFault>
-        requires { self.old.stage ≡ Stage.Trading }
-        ensures { Called (Call.Rebalance entity power hours days) result (year_in self.old) (year_in self.new) (L.Ledger.holding ledger.old) (L.Ledger.holding ledger.new) (L.Ledger.posts ledger.old) (L.Ledger.posts ledger.new) }
+        ensures { CalledInStage (Call.Rebalance entity supply) result (year_in self.old) (year_in self.new) (L.Ledger.holding ledger.old) (L.Ledger.holding ledger.new) (L.Ledger.posts ledger.old) (L.Ledger.posts ledger.new) }
     {
-        rebalance_in_range(entity, power, hours, days)?;
-        let Some(found) = self.entities.find(entity) else {
-            return Err(RegistryFault::Unknown { field: 1 });
-        };
-        let level = found.method.level(power, hours, days);
+        rebalance_in_range(entity, supply)?;
+        let found = self
+            .entities
+            .find(entity)
+            .ok_or(RegistryFault::Unknown { field: 1 })?;
+        let level = found.method.level(supply);
         let reply = change_level(ledger, found.account, found.level, level)?;
         let _ = self.entities.replace(Entity { level, ..found });
         Ok(reply)
@@ -159,8 +153,7 @@ impl<'a> Book<'a> {
         buyer: u8,
         amount: u32,
     ) -> Result<Reply, RegistryFault>
-        requires { self.old.stage ≡ Stage.Trading }
-        ensures { Called (Call.Offer offer seller buyer amount) result (year_in self.old) (year_in self.new) (L.Ledger.holding ledger.old) (L.Ledger.holding ledger.new) (L.Ledger.posts ledger.old) (L.Ledger.posts ledger.new) }
+        ensures { CalledInStage (Call.Offer offer seller buyer amount) result (year_in self.old) (year_in self.new) (L.Ledger.holding ledger.old) (L.Ledger.holding ledger.new) (L.Ledger.posts ledger.old) (L.Ledger.posts ledger.new) }
     {
         offer_in_range(offer, seller, buyer, amount)?;
         if !self.is_open(seller) {
@@ -172,7 +165,7 @@ impl<'a> Book<'a> {
         if seller == buyer {
             return Err(RegistryFault::WrongParty { field: 3 });
         }
-        if self.has_offer(offer) {
+        if self.offers.contains(offer) {
             return Err(RegistryFault::InUse { field: 1 });
         }
         if self.offers.len() >= OFFERS {
@@ -188,81 +181,54 @@ impl<'a> Book<'a> {
         Ok(Reply::Holding(holding))
     }
 
-    pub(crate) fn accept<L: Ledger>(
+    // Ends an offer for one of its parties, if that is the account that asks: the buyer accepts, the seller recalls.
+    pub(crate) fn end<L: Ledger>(
         &mut self,
         ledger: &mut L,
+        party: Party,
         offer: u16,
         account: u8,
     ) -> Result<Reply, RegistryFault>
-        requires { self.old.stage ≡ Stage.Trading }
-        ensures { Called (Call.Accept offer account) result (year_in self.old) (year_in self.new) (L.Ledger.holding ledger.old) (L.Ledger.holding ledger.new) (L.Ledger.posts ledger.old) (L.Ledger.posts ledger.new) }
+        ensures { CalledInStage (ending_call party offer account) result (year_in self.old) (year_in self.new) (L.Ledger.holding ledger.old) (L.Ledger.holding ledger.new) (L.Ledger.posts ledger.old) (L.Ledger.posts ledger.new) }
     {
         ending_in_range(offer, account)?;
-        let Some(found) = self.offers.find(offer) else {
-            return Err(RegistryFault::Unknown { field: 1 });
-        };
-        self.end(ledger, found, found.buyer, account)
-    }
-
-    pub(crate) fn recall<L: Ledger>(
-        &mut self,
-        ledger: &mut L,
-        offer: u16,
-        account: u8,
-    ) -> Result<Reply, RegistryFault>
-        requires { self.old.stage ≡ Stage.Trading }
-        ensures { Called (Call.Recall offer account) result (year_in self.old) (year_in self.new) (L.Ledger.holding ledger.old) (L.Ledger.holding ledger.new) (L.Ledger.posts ledger.old) (L.Ledger.posts ledger.new) }
-    {
-        ending_in_range(offer, account)?;
-        let Some(found) = self.offers.find(offer) else {
-            return Err(RegistryFault::Unknown { field: 1 });
-        };
-        self.end(ledger, found, found.seller, account)
-    }
-
-    // Ends an offer for one of its parties, if that is the account that asks.
-    fn end<L: Ledger>(
-        &mut self,
-        ledger: &mut L,
-        offer: Offer,
-        party: u8,
-        account: u8,
-    ) -> Result<Reply, RegistryFault>
-        ensures answer { result ≡ ending (L.Ledger.holding ledger.old) (L.Ledger.posts ledger.old) (λ _. party) (Some offer) account }
-        ensures after { year_in self.new ≡ (if is_ok result then after (ended offer party) (year_in self.old) else year_in self.old) }
-        ensures holds { (k : ℕ) → L.Ledger.holding ledger.new k ≡ (if is_ok result then L.Ledger.holding ledger.old k + to party offer.amount k else L.Ledger.holding ledger.old k) }
-        ensures posts { (L.Ledger.posts ledger.new ≤ L.Ledger.posts ledger.old) × (L.Ledger.posts ledger.old ≤ L.Ledger.posts ledger.new + (if is_ok result then 1 else 0)) }
-    {
-        if account != party {
+        let found = self
+            .offers
+            .find(offer)
+            .ok_or(RegistryFault::Unknown { field: 1 })?;
+        if account != party.of(found) {
             return Err(RegistryFault::WrongParty { field: 2 });
         }
-        let holding = ledger.credit(account, offer.amount)?;
-        let _ = self.offers.remove(offer.number);
+        let holding = ledger.credit(account, found.amount)?;
+        let _ = self.offers.remove(found.number);
         Ok(Reply::Holding(holding))
     }
 
     // Adds a step to one of the account's two series.
     pub(crate) fn load(
         &mut self,
+        terms: YearTerms,
         account: u8,
         number: u16,
         step: Step,
     ) -> Result<Reply, RegistryFault>
-        requires { (is_trading self.old.stage || is_closed self.old.stage) ≡ true }
-        ensures { (f : ℕ → ℕ) (m : ℕ) → Called (Call.Load account number step) result (year_in self.old) (year_in self.new) f f m m }
+        requires { half_hours_of self.old.phase ≡ terms.n }
+        ensures { (f : ℕ → ℕ) (m : ℕ) → CalledInStage (Call.Load account number step) result (year_in self.old) (year_in self.new) f f m m }
     {
-        let addition = load_in_range(self.n, account, number, step)?;
-        let Some(found) = self.accounts.find(u16::from(account)) else {
-            return Err(RegistryFault::NotOpen { field: 1 });
-        };
+        let addition = load_in_range(terms.n, account, number, step)?;
+        let found = self.account(account)?;
         let grown = with_step(found, number, addition)?;
         let _ = self.accounts.replace(grown);
         Ok(Reply::Done)
     }
 
     // Returns every offer to its seller, the lowest number first.
-    pub(crate) fn close<L: Ledger>(&mut self, ledger: &mut L) -> Result<Reply, RegistryFault>
-        requires { self.old.stage ≡ Stage.Trading }
+    pub(crate) fn close<L: Ledger>(
+        &mut self,
+        ledger: &mut L,
+        terms: YearTerms,
+    ) -> Result<Reply, RegistryFault>
+        requires { self.old.phase ≡ Phase.Trading terms }
         ensures { Called (Call.Close) result (year_in self.old) (year_in self.new) (L.Ledger.holding ledger.old) (L.Ledger.holding ledger.new) (L.Ledger.posts ledger.old) (L.Ledger.posts ledger.new) }
     {
         let count = self.offers.len();
@@ -274,7 +240,7 @@ impl<'a> Book<'a> {
         }
         give_back(ledger, self.offers.records());
         self.offers.clear();
-        self.stage = Stage::Closed;
+        self.phase = Phase::Closed(terms);
         Ok(Reply::Returned(count as u16))
     }
 
@@ -282,70 +248,56 @@ impl<'a> Book<'a> {
     pub(crate) fn settle<L: Ledger>(
         &mut self,
         ledger: &L,
+        terms: YearTerms,
         shortage: u32,
         surplus: u32,
     ) -> Result<Reply, RegistryFault>
-        requires { self.old.stage ≡ Stage.Closed }
+        requires { self.old.phase ≡ Phase.Closed terms }
         ensures { Called (Call.Settle shortage surplus) result (year_in self.old) (year_in self.new) (L.Ledger.holding ledger.now) (L.Ledger.holding ledger.now) (L.Ledger.posts ledger.now) (L.Ledger.posts ledger.now) }
     {
-        prices_in_range(shortage, surplus)?;
-        if let Some(account) = first_incomplete(self.accounts.records(), self.n) {
+        let prices = prices_in_range(shortage, surplus)?;
+        let accounts = self.accounts.records();
+        if let Some(account) = first_incomplete(accounts, terms.n) {
             return Err(RegistryFault::Incomplete { account });
         }
-        let terms = YearTerms {
-            n: self.n,
-            security: self.security,
-        };
-        let figures = settlement(
-            ledger,
-            self.accounts.records(),
-            terms,
-            Prices { shortage, surplus },
-        );
-        self.shortage = shortage;
-        self.surplus = surplus;
-        self.stage = Stage::Settled;
+        let figures = OpenAccounts { accounts, terms }.settlement(ledger, prices);
+        self.phase = Phase::Settled(terms, prices);
         Ok(Reply::Figures(figures))
     }
 
-    pub(crate) fn report<L: Ledger>(&self, ledger: &L, account: u8) -> Result<Reply, RegistryFault>
-        requires { self.now.stage ≡ Stage.Settled }
+    pub(crate) fn report<L: Ledger>(
+        &self,
+        ledger: &L,
+        terms: YearTerms,
+        prices: Prices,
+        account: u8,
+    ) -> Result<Reply, RegistryFault>
+        requires { self.now.phase ≡ Phase.Settled terms prices }
         ensures { Called (Call.Report account) result (year_in self.now) (year_in self.now) (L.Ledger.holding ledger.now) (L.Ledger.holding ledger.now) (L.Ledger.posts ledger.now) (L.Ledger.posts ledger.now) }
     {
         account_in_range(account, 1)?;
-        let Some(found) = self.accounts.find(u16::from(account)) else {
-            return Err(RegistryFault::NotOpen { field: 1 });
+        let found = self.account(account)?;
+        let accounts = OpenAccounts {
+            accounts: self.accounts.records(),
+            terms,
         };
-        let terms = YearTerms {
-            n: self.n,
-            security: self.security,
-        };
-        let prices = Prices {
-            shortage: self.shortage,
-            surplus: self.surplus,
-        };
-        Ok(Reply::Stated(statement(ledger, self.accounts.records(), found, terms, prices)))
+        Ok(Reply::Stated(accounts.statement(ledger, found, prices)))
+    }
+
+    // The record of an open account, which stands first in the calls that ask for it.
+    fn account(&self, account: u8) -> Result<Account, RegistryFault>
+        ensures { result ≡ ok_or (account_in (year_in self.now) account) (RegistryFault.NotOpen 1) }
+    {
+        self.accounts
+            .find(u16::from(account))
+            .ok_or(RegistryFault::NotOpen { field: 1 })
     }
 
     // Whether an account is open.
     fn is_open(&self, account: u8) -> bool
         ensures { result ≡ is_open (year_in self.now) account }
     {
-        self.accounts.find(u16::from(account)).is_some()
-    }
-
-    // Whether an entity has the number.
-    fn has_entity(&self, number: u16) -> bool
-        ensures { result ≡ is_some (entity_in (year_in self.now) number) }
-    {
-        self.entities.find(number).is_some()
-    }
-
-    // Whether an offer with the number stands.
-    fn has_offer(&self, number: u16) -> bool
-        ensures { result ≡ is_some (offer_in (year_in self.now) number) }
-    {
-        self.offers.find(number).is_some()
+        self.accounts.contains(u16::from(account))
     }
 }
 
@@ -353,10 +305,8 @@ impl<'a> Book<'a> {
 fn new_account(number: u8) -> Account
     ensures { result ≡ new_account number }
 {
-    let none = Series { loaded: 0, sum: 0 };
     Account {
         number,
-        profiled: none,
-        losses: none,
+        ..Account::EMPTY
     }
 }

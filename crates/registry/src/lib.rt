@@ -4,7 +4,9 @@
 
 mod book;
 mod calls;
+mod phase;
 mod ranges;
 pub mod state;
 
+pub use book::{ENTITIES, OFFERS};
 pub use state::Book;

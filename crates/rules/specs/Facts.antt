@@ -4,6 +4,7 @@ use Rattle.registers.specs.Rows.{inserted, without, replaced}
 use Rattle.curves.specs.declared.obligations.Step.{Step}
 use Rattle.curves.specs.declared.obligations.Sort.{Sort}
 use Rattle.curves.specs.declared.obligations.Sort.TheVariants.{Profiled, Losses}
+use Rattle.curves.specs.declared.levels.Supply.{Supply}
 use Rattle.curves.specs.Levels.{guarantees, method_at}
 use Rattle.curves.specs.Obligations.{sort_at, step_adds}
 use Rattle.rules.specs.declared.records.Series.{Series}
@@ -32,9 +33,9 @@ pub data Fact : Type 0 where
   nothing : Fact
 
 -- a rebalance works the level out again by its entity's method
-abbrev pub rebalanced : Option Entity → ℕ → ℕ → ℕ → Fact
-rebalanced None power hours days = nothing
-rebalanced (Some e) power hours days = relevelled e (guarantees e.method power hours days)
+abbrev pub rebalanced : Option Entity → Supply → Fact
+rebalanced None supply = nothing
+rebalanced (Some e) supply = relevelled e (guarantees e.method supply)
 
 abbrev pub ended_for : (Offer → ℕ) → Option Offer → Fact
 ended_for party None = nothing
@@ -44,9 +45,9 @@ ended_for party (Some o) = ended o (party o)
 abbrev pub did : Year → Call → Fact
 did y (Begin n security) = began n security
 did y (Open a) = opened a
-did y (Certify i a m power hours days) =
-    certified (record { number = i; account = a; method = method_at m; level = guarantees (method_at m) power hours days })
-did y (Rebalance i power hours days) = rebalanced (entity_in y i) power hours days
+did y (Certify i a m supply) =
+    certified (record { number = i; account = a; method = method_at m; level = guarantees (method_at m) supply })
+did y (Rebalance i supply) = rebalanced (entity_in y i) supply
 did y (MakeOffer i s b x) = offered (record { number = i; seller = s; buyer = b; amount = x })
 did y (Accept i a) = ended_for (λ o. o.buyer) (offer_in y i)
 did y (Recall i a) = ended_for (λ o. o.seller) (offer_in y i)

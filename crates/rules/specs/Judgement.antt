@@ -4,6 +4,7 @@ use Rattle.ledger.specs.declared.fault.LedgerFault.{LedgerFault}
 use Rattle.ledger.specs.declared.fault.LedgerFault.TheVariants.{PastLimit}
 use Rattle.ledger.specs.Rules.{limit, known, crediting, debiting}
 use Rattle.curves.specs.Ranges.{within}
+use Rattle.curves.specs.declared.levels.Supply.{Supply}
 use Rattle.curves.specs.Levels.{guarantees, method_at, supply_fine}
 use Rattle.curves.specs.declared.obligations.Sort.{Sort}
 use Rattle.curves.specs.declared.obligations.Sort.TheVariants.{Profiled, Losses}
@@ -47,8 +48,8 @@ in_range place (fine ∷ fields) rest = cond fine (in_range (place + 1) fields r
 abbrev pub needs : Call → Stage → Bool
 needs (Begin _ _) s = is_blank s
 needs (Open _) s = is_trading s
-needs (Certify _ _ _ _ _ _) s = is_trading s
-needs (Rebalance _ _ _ _) s = is_trading s
+needs (Certify _ _ _ _) s = is_trading s
+needs (Rebalance _ _) s = is_trading s
 needs (MakeOffer _ _ _ _) s = is_trading s
 needs (Accept _ _) s = is_trading s
 needs (Recall _ _) s = is_trading s
@@ -68,8 +69,8 @@ price_fine p = nat_le p highest_price
 abbrev pub fields : Year → Call → List Bool
 fields y (Begin n security) = within 1 400 n ∷ nat_le security 2000 ∷ []
 fields y (Open a) = known a ∷ []
-fields y (Certify i a m power hours days) = number_fine i ∷ known a ∷ within 1 4 m ∷ supply_fine power hours days
-fields y (Rebalance i power hours days) = number_fine i ∷ supply_fine power hours days
+fields y (Certify i a m supply) = number_fine i ∷ known a ∷ within 1 4 m ∷ supply_fine supply
+fields y (Rebalance i supply) = number_fine i ∷ supply_fine supply
 fields y (MakeOffer i s b x) = number_fine i ∷ known s ∷ known b ∷ within 1 limit x ∷ []
 fields y (Accept i a) = number_fine i ∷ known a ∷ []
 fields y (Recall i a) = number_fine i ∷ known a ∷ []
@@ -99,9 +100,9 @@ levelling f m a old new =
     cond (new == old) (Ok (Level new))
     (passed_on (λ _. Level new) (cond (nat_lt old new) (crediting f m a (new - old)) (debiting f m a (old - new))))
 
-abbrev pub rebalancing : (ℕ → ℕ) → ℕ → Option Entity → ℕ → ℕ → ℕ → Answer
-rebalancing f m None power hours days = Err (Unknown 1)
-rebalancing f m (Some e) power hours days = levelling f m e.account e.level (guarantees e.method power hours days)
+abbrev pub rebalancing : (ℕ → ℕ) → ℕ → Option Entity → Supply → Answer
+rebalancing f m None supply = Err (Unknown 1)
+rebalancing f m (Some e) supply = levelling f m e.account e.level (guarantees e.method supply)
 
 -- An offer ended by the party that it names.
 abbrev pub ending : (ℕ → ℕ) → ℕ → (Offer → ℕ) → Option Offer → ℕ → Answer
@@ -130,12 +131,12 @@ reporting y f (Some a) = Ok (Stated (statement_of y.n y.security y.shortage y.su
 abbrev pub ruling : Year → (ℕ → ℕ) → ℕ → Call → Answer
 ruling y f m (Begin n security) = unless (lowest_holder f 64 1) NotEmpty (Ok Done)
 ruling y f m (Open a) = walk (not (is_open y a) else InUse 1 ∷ []) (Ok Done)
-ruling y f m (Certify i a method power hours days) =
+ruling y f m (Certify i a method supply) =
     walk (is_open y a else NotOpen 2
     ∷ not (is_some (entity_in y i)) else InUse 1
     ∷ nat_lt (length y.entities) 64 else RegisterFull ∷ [])
-    (levelling f m a 0 (guarantees (method_at method) power hours days))
-ruling y f m (Rebalance i power hours days) = rebalancing f m (entity_in y i) power hours days
+    (levelling f m a 0 (guarantees (method_at method) supply))
+ruling y f m (Rebalance i supply) = rebalancing f m (entity_in y i) supply
 ruling y f m (MakeOffer i s b x) =
     walk (is_open y s else NotOpen 2
     ∷ is_open y b else NotOpen 3

@@ -1,7 +1,9 @@
 -- What an answer line says of each refusal: its layer, its number and its place.
 use Rattle.std.specs.Prelude.{ℕ}
+use Rattle.refusals.specs.declared.Refusal.{Refusal}
 use Rattle.ledger.specs.Faults.{refusal}
-use Rattle.rules.specs.declared.faults.Refusal.{Refusal}
+use Rattle.registers.specs.declared.RegisterFault.{RegisterFault}
+use Rattle.registers.specs.declared.RegisterFault.TheVariants.{InUse as Taken, Full}
 use Rattle.rules.specs.declared.faults.RegistryFault.{RegistryFault}
 use Rattle.rules.specs.declared.faults.RegistryFault.TheVariants.{WrongStage, OutOfRange, NotOpen, InUse, Unknown, RegisterFull, WrongParty, OutOfTurn, Incomplete, PostsShort, NotEmpty, Ledger}
 
@@ -20,4 +22,9 @@ refusal_of (OutOfTurn field) = of_the_book 8 field
 refusal_of (Incomplete account) = of_the_book 9 account
 refusal_of PostsShort = of_the_book 10 0
 refusal_of (NotEmpty account) = of_the_book 11 account
-refusal_of (Ledger fault) = record { layer = 4; number = (refusal fault).0; place = (refusal fault).1 }
+refusal_of (Ledger fault) = refusal fault
+
+-- A register's refusal, in a call that has the number of its record first.
+abbrev pub of_the_register : RegisterFault → RegistryFault
+of_the_register Taken = InUse 1
+of_the_register Full = RegisterFull

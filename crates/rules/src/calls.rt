@@ -1,8 +1,8 @@
 // The stages of a delivery year, the eleven calls, and what an accepted call answers.
-use curves::Step;
+use curves::{Step, Supply};
 use settlement::Settlement;
 
-#[derive(Clone, Copy)]
+#[derive(Clone, Copy, PartialEq, Eq, Debug)]
 pub enum Stage {
     Blank,
     Trading,
@@ -10,9 +10,10 @@ pub enum Stage {
     Settled,
 }
 
-// A call with its fields as given, not yet judged.
-// Powers are in kW, hours in tenths, days in hundredths, prices in cents, amounts in guarantees.
-#[derive(Clone, Copy)]
+// A call with its fields as given, not yet judged: the stage is judged before them, so a method is still a
+// number here.
+// Prices are in cents, amounts in guarantees.
+#[derive(Clone, Copy, PartialEq, Eq, Debug)]
 pub enum Call {
     Begin {
         n: u16,
@@ -25,15 +26,11 @@ pub enum Call {
         entity: u16,
         account: u8,
         method: u8,
-        power: u32,
-        hours: u8,
-        days: u16,
+        supply: Supply,
     },
     Rebalance {
         entity: u16,
-        power: u32,
-        hours: u8,
-        days: u16,
+        supply: Supply,
     },
     Offer {
         offer: u16,
@@ -65,7 +62,7 @@ pub enum Call {
 }
 
 // What an accepted call answers.
-#[derive(Clone, Copy)]
+#[derive(Clone, Copy, PartialEq, Eq, Debug)]
 pub enum Reply {
     Done,
     Level(u32),
@@ -76,7 +73,7 @@ pub enum Reply {
 }
 
 // An account after settling: guarantees, and the signed amount in cents, negative when owed.
-#[derive(Clone, Copy)]
+#[derive(Clone, Copy, PartialEq, Eq, Debug)]
 pub struct Statement {
     pub holding: u32,
     pub obligation: u32,

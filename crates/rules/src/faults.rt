@@ -1,14 +1,16 @@
 // Why a call is refused, and what the answer line says of it.
 ghost use Rattle.std.specs.Prelude.{◌≡◌};
 ghost use Rattle.rules.specs.declared.faults.RegistryFault.TheVariants.{OutOfRange as FieldOutOfRange, Ledger as OfLedger};
-ghost use Rattle.rules.specs.Refusals.{refusal_of, of_the_book};
+ghost use Rattle.rules.specs.Refusals.{refusal_of, of_the_book, of_the_register};
 
 use curves::OutOfRange;
 use ledger::LedgerFault;
+use refusals::Refusal;
+use registers::RegisterFault;
 
 // The refusals of the book's own layer, and the ledger's inside.
 // A `field` is the place of the field to blame, counted from 1.
-#[derive(Clone, Copy)]
+#[derive(Clone, Copy, PartialEq, Eq, Debug)]
 pub enum RegistryFault {
     WrongStage,
     OutOfRange { field: u8 },
@@ -24,35 +26,23 @@ pub enum RegistryFault {
     Ledger(LedgerFault),
 }
 
-// A refusal as an answer line has it.
-#[derive(Clone, Copy)]
-pub struct Refusal {
-    pub layer: u8,
-    pub number: u8,
-    pub place: u16,
-}
+impl From<RegistryFault> for Refusal {
+    ghost from_gives = { λ e r. r ≡ refusal_of e };
 
-impl RegistryFault {
-    pub fn refusal(&self) -> Refusal
-        ensures { result ≡ refusal_of self.now }
-    {
-        match self {
+    fn from(fault: RegistryFault) -> Refusal {
+        match fault {
             RegistryFault::WrongStage => of_the_book(1, 0),
-            RegistryFault::OutOfRange { field } => of_the_book(2, *field),
-            RegistryFault::NotOpen { field } => of_the_book(3, *field),
-            RegistryFault::InUse { field } => of_the_book(4, *field),
-            RegistryFault::Unknown { field } => of_the_book(5, *field),
+            RegistryFault::OutOfRange { field } => of_the_book(2, field),
+            RegistryFault::NotOpen { field } => of_the_book(3, field),
+            RegistryFault::InUse { field } => of_the_book(4, field),
+            RegistryFault::Unknown { field } => of_the_book(5, field),
             RegistryFault::RegisterFull => of_the_book(6, 0),
-            RegistryFault::WrongParty { field } => of_the_book(7, *field),
-            RegistryFault::OutOfTurn { field } => of_the_book(8, *field),
-            RegistryFault::Incomplete { account } => of_the_book(9, *account),
+            RegistryFault::WrongParty { field } => of_the_book(7, field),
+            RegistryFault::OutOfTurn { field } => of_the_book(8, field),
+            RegistryFault::Incomplete { account } => of_the_book(9, account),
             RegistryFault::PostsShort => of_the_book(10, 0),
-            RegistryFault::NotEmpty { account } => of_the_book(11, *account),
-            RegistryFault::Ledger(fault) => Refusal {
-                layer: 4,
-                number: fault.number(),
-                place: u16::from(fault.account()),
-            },
+            RegistryFault::NotEmpty { account } => of_the_book(11, account),
+            RegistryFault::Ledger(inner) => Refusal::from(inner),
         }
     }
 }
@@ -81,5 +71,17 @@ impl From<LedgerFault> for RegistryFault {
 
     fn from(fault: LedgerFault) -> RegistryFault {
         RegistryFault::Ledger(fault)
+    }
+}
+
+impl From<RegisterFault> for RegistryFault {
+    ghost from_gives = { λ e r. r ≡ of_the_register e };
+
+    // The number of a record stands first in each call that enters one.
+    fn from(fault: RegisterFault) -> RegistryFault {
+        match fault {
+            RegisterFault::InUse => RegistryFault::InUse { field: 1 },
+            RegisterFault::Full => RegistryFault::RegisterFull,
+        }
     }
 }

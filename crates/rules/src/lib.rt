@@ -7,6 +7,7 @@ pub mod faults;
 pub mod records;
 
 pub use calls::{Call, Reply, Stage, Statement};
-pub use faults::{Refusal, RegistryFault};
+pub use faults::RegistryFault;
 pub use records::{Account, Entity, Offer, Series};
+pub use refusals::Refusal;
 pub use settlement::Settlement;

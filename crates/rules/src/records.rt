@@ -5,14 +5,19 @@ use curves::Method;
 use registers::{Amount, Keyed};
 
 // The steps loaded so far, and the sum of what they add.
-#[derive(Clone, Copy)]
+#[derive(Clone, Copy, PartialEq, Eq, Debug)]
 pub struct Series {
     pub loaded: u16,
     pub sum: i64,
 }
 
+impl Series {
+    // No step yet.
+    pub const EMPTY: Series = Series { loaded: 0, sum: 0 };
+}
+
 // An open account with its two series.
-#[derive(Clone, Copy)]
+#[derive(Clone, Copy, PartialEq, Eq, Debug)]
 pub struct Account {
     pub number: u8,
     pub profiled: Series,
@@ -20,7 +25,7 @@ pub struct Account {
 }
 
 // A certified entity at its last level, in guarantees.
-#[derive(Clone, Copy)]
+#[derive(Clone, Copy, PartialEq, Eq, Debug)]
 pub struct Entity {
     pub number: u16,
     pub account: u8,
@@ -29,7 +34,7 @@ pub struct Entity {
 }
 
 // A standing offer, in guarantees.
-#[derive(Clone, Copy)]
+#[derive(Clone, Copy, PartialEq, Eq, Debug)]
 pub struct Offer {
     pub number: u16,
     pub seller: u8,
@@ -37,11 +42,38 @@ pub struct Offer {
     pub amount: u32,
 }
 
+// What a host fills its places with. No place is read before a record is written to it.
+impl Account {
+    pub const EMPTY: Account = Account {
+        number: 0,
+        profiled: Series::EMPTY,
+        losses: Series::EMPTY,
+    };
+}
+
+impl Entity {
+    pub const EMPTY: Entity = Entity {
+        number: 0,
+        account: 0,
+        method: Method::Dispatchable,
+        level: 0,
+    };
+}
+
+impl Offer {
+    pub const EMPTY: Offer = Offer {
+        number: 0,
+        seller: 0,
+        buyer: 0,
+        amount: 0,
+    };
+}
+
 impl Keyed for Account {
     ghost key = { account_number };
 
     fn number(&self) -> u16 {
-        self.number as u16
+        u16::from(self.number)
     }
 }
 

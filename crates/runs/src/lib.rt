@@ -12,15 +12,16 @@ use registry::Book;
 use rules::{Call, RegistryFault, Reply};
 
 // The posts left that the ledger showed before a call, and the call's answer.
-#[derive(Clone, Copy)]
+#[derive(Clone, Copy, PartialEq, Eq, Debug)]
 pub struct Outcome {
     pub shown: u16,
     pub answer: Result<Reply, RegistryFault>,
 }
 
-// Makes the calls in turn, as far as there are places for their outcomes, and gives their number.
-// From a new book on, over any ledger in any state, the law holds after every call, and what the book and the ledger then hold
-// is what this history says.
+// Makes the calls in turn, as far as there are places for their outcomes, and gives their number. The
+// book and its ledger are two: a host may ask its ledger between runs. From a new book on, over any ledger
+// in any state, the law holds after every call, and what the book and the ledger then hold is what this
+// history says.
 pub fn run<L: Ledger>(
     book: &mut Book<'_>,
     ledger: &mut L,
@@ -31,9 +32,10 @@ pub fn run<L: Ledger>(
     ensures law { year_in book.old ≡ blank_year → Ran (L.Ledger.holding ledger.old) (history result calls.now outcomes.new) (year_in book.new) (L.Ledger.holding ledger.new) (L.Ledger.posts ledger.new) }
 {
     let count = calls.len().min(outcomes.len());
-    for i in 0..count {
+    // By index: after `calls.iter().zip(outcomes.iter_mut())`, which was tried, a proof knows no outcome.
+    for (i, call) in calls[..count].iter().enumerate() {
         let shown = ledger.left();
-        let answer = book.call(ledger, calls[i]);
+        let answer = book.call(ledger, *call);
         outcomes[i] = Outcome { shown, answer };
     }
     count

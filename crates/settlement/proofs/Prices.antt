@@ -2,11 +2,11 @@
 use Rattle.std.proofs.Common.{◌≡◌, ℕ, ◌+◌, ◌*◌, ◌/◌, ◌<◌, ◌≤◌, min, eqb, List, ℤ, ⊎_elim, mul-le-mul_left, arith}
 use native.Mathlib.Nat.{mul-div-le, lt-mul-div-succ}
 use Rattle.std.proofs.lemmas.Bool.{cond_both, eqb-true, eqb-false, cases_order}
+use Rattle.std.proofs.lemmas.Bool.Decides.{nat_tests}
 use Rattle.settlement.specs.Rules.{total_surplus_of, collected, price_within, paid_price_of, Fair}
 
-pub price_within_quote : (money guarantees quoted : ℕ) → price_within money guarantees quoted ≤ quoted
-price_within_quote money guarantees quoted =
-    cond_both (eqb guarantees 0) quoted (min quoted (money / guarantees)) (λ (price : ℕ). price ≤ quoted) (λ _. omega arith) (λ _. omega arith)
+price_within_quote : (money guarantees quoted : ℕ) → price_within money guarantees quoted ≤ quoted
+price_within_quote money guarantees quoted = grind (arith, nat_tests)
 
 pub price_within_money : (money guarantees quoted : ℕ) → guarantees * price_within money guarantees quoted ≤ money
 price_within_money money guarantees quoted =

@@ -10,14 +10,14 @@ use Rattle.settlement.specs.Faults.{answered, left_by}
 
 -- A sheet at two prices, with these gaps entered.
 pub record Holds (sheet : Sheet) (shortage_price surplus_price : ℕ) (gaps : List ℤ) : Type 0 where
-  pub at_shortage_price : sheet.shortage_price ≡ shortage_price
-  pub at_surplus_price : sheet.surplus_price ≡ surplus_price
+  pub at_shortage_price : sheet.prices.shortage ≡ shortage_price
+  pub at_surplus_price : sheet.prices.surplus ≡ surplus_price
   pub tally : Tally sheet.totals.shortage sheet.totals.surplus sheet.totals.count gaps
 
 -- A paying sheet at two prices, of these gaps.
 pub record Settles (sheet : PayingSheet) (shortage_price surplus_price : ℕ) (gaps : List ℤ) : Type 0 where
-  pub at_shortage_price : sheet.shortage_price ≡ shortage_price
-  pub due : Due shortage_price sheet.paid_price sheet.total_surplus sheet.collected surplus_price gaps
+  pub at_shortage_price : sheet.settled_at.shortage ≡ shortage_price
+  pub due : Due shortage_price sheet.settled_at.surplus sheet.total_surplus sheet.collected surplus_price gaps
 
 -- The same, with so much surplus not yet paid.
 pub record Pays (sheet : PayingSheet) (shortage_price surplus_price : ℕ) (gaps : List ℤ) (left : ℕ) : Type 0 where

@@ -1,14 +1,15 @@
-// The settlement of gaps between holdings and obligations: gaps are entered into a sheet, and paid from it once it is ended (5.6).
+// The settlement of gaps between holdings and obligations: gaps are entered into a sheet, and paid from it
+// once it is ended (5.6).
 
 #![tactic(auto)]
 
-ghost use Rattle.std.specs.Prelude.{◌≡◌, ℕ, IfOk, Ok};
+ghost use Rattle.std.specs.Prelude.{◌≡◌, ℕ, IfOk};
 ghost use Rattle.std.specs.Result.{result_err};
 ghost use Rattle.settlement.specs.Rules.{total_surplus_of, amounts};
 ghost use Rattle.settlement.specs.Sheets.{Pays};
 ghost use Rattle.settlement.specs.Laws.{SettlementIsFair};
 ghost use Rattle.settlement.specs.Marked.{MarkedSettlement};
-ghost use Rattle.settlement.specs.Whole.{settle_fault, settling, settled};
+ghost use Rattle.settlement.specs.Whole.{gaps_fault, settling, settled};
 
 pub mod fault;
 mod gaps;
@@ -16,7 +17,7 @@ pub mod sheet;
 mod totals;
 
 use fault::SheetFault;
-use sheet::{PayingSheet, Sheet};
+use sheet::{PayingSheet, Prices, Sheet};
 
 // The figures of a settlement: cents for each guarantee, then cents.
 #[derive(Clone, Copy, PartialEq, Eq, Debug)]
@@ -36,7 +37,8 @@ pub fn settle(
     ensures answer { result ≡ settling shortage_price surplus_price gaps.old }
     ensures after { gaps.new ≡ settled shortage_price surplus_price gaps.old }
 {
-    let paying = enter_all(shortage_price, surplus_price, gaps)?;
+    let prices = Prices::new(shortage_price, surplus_price)?;
+    let paying = enter_all(prices, gaps)?;
     let figures = paying.figures();
     pay_all(paying, gaps)?;
     Ok(figures)
@@ -53,15 +55,11 @@ pub fn marked_settlement()
 {}
 
 // An ended sheet of all the gaps.
-fn enter_all(
-    shortage_price: u32,
-    surplus_price: u32,
-    gaps: &[i64],
-) -> Result<PayingSheet, SheetFault>
-    ensures answer { result_err result ≡ settle_fault shortage_price surplus_price gaps.now }
-    ensures after { IfOk result (λ sheet. Pays sheet shortage_price surplus_price gaps.now (total_surplus_of gaps.now)) }
+fn enter_all(prices: Prices, gaps: &[i64]) -> Result<PayingSheet, SheetFault>
+    ensures answer { result_err result ≡ gaps_fault 0 gaps.now }
+    ensures after { IfOk result (λ sheet. Pays sheet prices.shortage prices.surplus gaps.now (total_surplus_of gaps.now)) }
 {
-    let mut sheet = Sheet::start(shortage_price, surplus_price)?;
+    let mut sheet = Sheet::at(prices);
     for gap in gaps {
         sheet.enter(*gap)?;
     }

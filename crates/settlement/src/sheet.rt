@@ -1,36 +1,36 @@
 // The settlement sheet in its two stages: gaps are entered into the first, and paid from the second.
 ghost use Rattle.std.specs.Prelude.{◌*◌, ◌≤◌};
-ghost use Rattle.settlement.specs.Rules.{highest_price, widest_surplus, most_gaps};
+ghost use Rattle.settlement.specs.Rules.{widest_surplus, most_gaps};
 ghost use Rattle.settlement.specs.Tallies.{Ended};
 
 use crate::totals::Totals;
 
 mod entering;
 mod paying;
+mod prices;
 
-// A sheet that takes gaps. Prices are in cents for each guarantee.
+pub use prices::{HIGHEST_PRICE, Prices};
+
+// A sheet that takes gaps. Contracts speak of every list that it may hold: the list as ghost data was
+// tried, and wants proofs by hand of each function that changes it.
 #[derive(Drop)]
 pub struct Sheet {
-    shortage_price: u32,
-    surplus_price: u32,
+    prices: Prices,
     totals: Totals,
-    ghost priced: { (shortage_price ≤ highest_price) × (surplus_price ≤ highest_price) },
 }
 
 // An ended sheet, which pays. Surpluses are in guarantees, money in cents.
 #[derive(Drop)]
 pub struct PayingSheet {
-    shortage_price: u32,
-    paid_price: u32,
+    // for surpluses the paid price, not the quoted one
+    settled_at: Prices,
     total_surplus: u64,
     collected: u64,
     unpaid: u64,
     // some list of gaps stands behind the figures
-    ghost stands: { Ended shortage_price paid_price total_surplus collected },
+    ghost stands: { Ended settled_at.shortage settled_at.surplus total_surplus collected },
     // so that no product overflows, and no payment passes what is collected
-    ghost bound: { (shortage_price ≤ highest_price)
-        × (paid_price ≤ highest_price)
-        × (total_surplus ≤ widest_surplus * most_gaps)
-        × (total_surplus * paid_price ≤ collected)
+    ghost bound: { (total_surplus ≤ widest_surplus * most_gaps)
+        × (total_surplus * settled_at.surplus ≤ collected)
         × (unpaid ≤ total_surplus) },
 }

@@ -1,9 +1,9 @@
 // The totals of the gaps entered into a sheet, in guarantees, and their count.
-ghost use Rattle.std.specs.Prelude.{◌≡◌, ◌+◌, ◌*◌, ◌<◌, ◌≤◌, true, List, [], ◌∷◌, ◌++◌, ℤ};
-ghost use Rattle.settlement.specs.Rules.{widest_shortage, widest_surplus, most_gaps, gap_fine};
+ghost use Rattle.std.specs.Prelude.{◌≡◌, ◌+◌, ◌*◌, ◌<◌, ◌≤◌, List, [], ◌∷◌, ◌++◌, ℤ};
+ghost use Rattle.settlement.specs.Rules.{widest_shortage, widest_surplus, most_gaps};
 ghost use Rattle.settlement.specs.Tallies.{Tally, Tallied};
 
-use crate::gaps::{shortage, surplus};
+use crate::gaps::Gap;
 
 #[derive(Drop)]
 pub struct Totals {
@@ -29,13 +29,13 @@ impl Totals {
     }
 
     // Adds one more gap.
-    pub fn add(&mut self, gap: i64)
-        requires { (gap_fine gap ≡ true) × (self.old.count < most_gaps) }
+    pub fn add(&mut self, gap: Gap)
+        requires { self.old.count < most_gaps }
         ensures answer { self.new.count ≡ self.old.count + 1 }
-        ensures holds { (gaps : List ℤ) → Tally self.old.shortage self.old.surplus self.old.count gaps → Tally self.new.shortage self.new.surplus self.new.count (gaps ++ gap ∷ []) }
+        ensures holds { (gaps : List ℤ) → Tally self.old.shortage self.old.surplus self.old.count gaps → Tally self.new.shortage self.new.surplus self.new.count (gaps ++ gap.guarantees ∷ []) }
     {
-        self.shortage += shortage(gap);
-        self.surplus += surplus(gap);
+        self.shortage += gap.shortage();
+        self.surplus += gap.surplus();
         self.count += 1;
     }
 }

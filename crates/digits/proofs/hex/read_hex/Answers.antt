@@ -5,7 +5,7 @@ use Rattle.digits.proofs.hex.read_hex.Goals as goal
 pub read_pairs-requires : goal.read_pairs-requires
 read_pairs-requires c =
     let a = accepted c.args.line.now (length c.args.out.now) c.in_ok-count.count c.in_ok-count.ensures in
-    (a.0, omega arith)
+    record { sound = a.0; room = omega arith }
 
 pub returns : goal.returns
 returns c =

@@ -1,8 +1,7 @@
-use Rattle.lines.proofs.Held.{held_longer, held_full}
+use Rattle.lines.proofs.Held.{held_more}
 use Rattle.lines.proofs.buffer.LineBuffer.hold.Goals as goal
 
-pub returns-then-self-lt-HELD : goal.returns-then-self-lt-HELD
-returns-then-self-lt-HELD c = let s = c.args.self.now in held_longer s.held s.count c.args.byte s.whole c.if-self-lt-HELD.true
-
-pub returns-else-self-lt-HELD : goal.returns-else-self-lt-HELD
-returns-else-self-lt-HELD c = let s = c.args.self.now in held_full s.held s.count c.args.byte s.whole s.within c.if-self-lt-HELD.false
+pub returns : goal.returns
+returns c =
+    let e = c.try_push.ensures in
+    rw (← c.self.view_is) (held_more (λ held. held.items) c.self.inside.held c.try_push.new.self c.args.byte c.try_push.result e.variant e.ok e.err e.full)

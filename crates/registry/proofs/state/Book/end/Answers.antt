@@ -9,9 +9,9 @@ invariant_of-self g c =
     let s = c.args.self.now in
     let e = c.remove.ensures in
     record {
-      rooms = (s.rooms.0, s.rooms.1, e.unchanged ∙ s.rooms.2);
-      terms = s.terms;
-      prices = s.prices;
+      account_places = s.account_places;
+      entity_places = s.entity_places;
+      offer_places = e.unchanged ∙ s.offer_places;
       kept = s.kept;
       real = ∥∥₁_map s.real (real_without _ (rows s.offers) _ e.after);
     }

@@ -14,9 +14,9 @@ invariant_of-self g c =
     let e = c.insert.ensures in
     let fine = fine_if_accepted 1 (number_fine c.args.offer ∷ known c.args.seller ∷ known c.args.buyer ∷ within 1 limit c.args.amount ∷ []) tt tt (sym c.in_ok-offer_in_range.ensures) in
     record {
-      rooms = (s.rooms.0, s.rooms.1, e.unchanged ∙ s.rooms.2);
-      terms = s.terms;
-      prices = s.prices;
+      account_places = s.account_places;
+      entity_places = s.entity_places;
+      offer_places = e.unchanged ∙ s.offer_places;
       kept = s.kept;
       real = ∥∥₁_map s.real (real_inserted (record { number = c.args.offer; seller = c.args.seller; buyer = c.args.buyer; amount = c.args.amount }) (room s.offers) (rows s.offers) _ c.insert.result fine.1.0 fine.1.1.1.0 e.answer e.after);
     }

@@ -1,19 +1,23 @@
-use Rattle.std.proofs.Common.{List, [], ◌∷◌, sym, subst}
-use Rattle.std.proofs.lemmas.Bool.{leb-true}
-use Rattle.settlement.specs.Rules.{highest_price}
-use Rattle.curves.proofs.Judging.{fine_if_accepted}
+use Rattle.std.proofs.Common.{List, sym, subst}
+use Rattle.registers.specs.Held.{rows}
 use Rattle.rules.specs.declared.records.Account.{Account}
-use Rattle.rules.specs.Judgement.{price_fine}
 use Rattle.accounts.specs.Bounds.{Kept}
-use Rattle.registry.proofs.Keeping.{terms_closed}
+use Rattle.registry.specs.declared.phase.Phase.{Phase}
+use Rattle.registry.specs.Phases.{half_hours_of}
 use Rattle.registry.proofs.state.Book.settle.Goals as goal
 
-pub settlement-figures-requires : goal.settlement-figures-requires
-settlement-figures-requires g c =
+pub invariant_of-settlement : goal.invariant_of-settlement
+invariant_of-settlement g c =
     let s = c.args.self.now in
-    let fine = fine_if_accepted 1 (price_fine c.args.shortage ∷ price_fine c.args.surplus ∷ []) tt tt (sym c.in_ok-prices_in_range.ensures) in
+    record { kept = subst (λ (xs : List Account). ∥ Kept c.args.terms.n xs ∥₁) (sym c.records-accounts.ensures.answer) (subst (λ (p : Phase). ∥ Kept (half_hours_of p) (rows s.accounts) ∥₁) c.requires s.kept) }
+
+pub invariant_of-self : goal.invariant_of-self
+invariant_of-self g c =
+    let s = c.args.self.now in
     record {
-      kept = subst (λ (xs : List Account). ∥ Kept s.n xs ∥₁) (sym c.records-2.ensures.answer) s.kept;
-      terms = terms_closed s.stage s.n s.security c.requires s.terms;
-      prices = (leb-true c.args.shortage highest_price fine.0, leb-true c.args.surplus highest_price fine.1.0);
+      account_places = s.account_places;
+      entity_places = s.entity_places;
+      offer_places = s.offer_places;
+      kept = subst (λ (p : Phase). ∥ Kept (half_hours_of p) (rows s.accounts) ∥₁) c.requires s.kept;
+      real = s.real;
     }
