@@ -106,7 +106,8 @@ impl Supply {
     }
 }
 
-// The level alone, of a method's number and a supply. A number and no `Method`: one that names none is refused.
+// The level alone, of a method's number, as a table has it, and a supply. For a `Method` there is
+// `Method::level`.
 pub fn level(method: u8, supply: Supply) -> Result<u32, OutOfRange>
     ensures { result ≡ level_of method supply }
 {

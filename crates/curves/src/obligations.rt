@@ -134,7 +134,7 @@ impl Step {
 }
 
 // What a gradient counts over the degrees from one temperature up to another, all in range.
-#[derive(Clone, Copy)]
+#[derive(Clone, Copy, PartialEq, Eq, Debug)]
 struct Warmth {
     gradient: i32,
     coefficient: u16,

@@ -27,7 +27,8 @@ pub fn write_hex(out: &mut [u8], bytes: &[u8]) -> Option<usize>
     Some(2 * bytes.len())
 }
 
-// Writes the bytes that the digits of `line` stand for at the start of `out`, and gives their count;
+// Writes the bytes that the digits of `line` stand for at the start of `out`, and gives their count, as
+// the space is lent;
 // writes nothing where it refuses.
 pub fn read_hex(line: &[u8], out: &mut [u8]) -> Result<usize, HexFault>
     ensures answer { result ≡ reading line.now (length out.old) }

@@ -5,7 +5,7 @@
 #![tactic(auto)]
 
 use curves::{OutOfRange, Step, Supply, added, level, obligation};
-use digits::frame::{Field, Frame};
+use digits::frame::{Field, Frame, LONGEST};
 use digits::hex::{read_hex, write_hex};
 use digits::numbers::field_at;
 use std::io::Write;
@@ -17,7 +17,7 @@ const DIGITS: usize = 48;
 const LINE: usize = DIGITS + 1;
 
 // The digits of the longest frame.
-const ANSWER: usize = 60;
+const ANSWER: usize = 2 * LONGEST;
 
 // A figure behind byte 0, or behind byte 1 the field that is out of its range.
 fn framed(answer: Result<Field, OutOfRange>) -> Frame {

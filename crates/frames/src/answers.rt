@@ -19,8 +19,8 @@ pub fn kind_of(call: Call) -> u8
     Kind::from(call) as u8
 }
 
-// The bytes of an answer: an accepted call's kind and results, or a refusal. The kind is a byte, as a
-// line has it: callers need no `Kind`.
+// The bytes of an answer: an accepted call's kind and results, or a refusal. The kind is the byte of its
+// line: a `Kind` would only be turned into that byte again.
 pub fn answer_frame(said: Result<(u8, Reply), LineFault>) -> Frame
     ensures { result ≡ answer_bytes said }
 {
@@ -44,7 +44,7 @@ pub fn write_line(answers: &mut [u8], at: usize, frame: &Frame) -> usize
     2 * bytes.len() + 1
 }
 
-// No `From`: the kind byte is the call's.
+// No `From`: the kind is the call's. It is the byte of the line that is composed, and no `Kind`.
 fn reply_frame(kind: u8, reply: Reply) -> Frame
     ensures { result ≡ reply_bytes kind reply }
 {
@@ -65,6 +65,7 @@ fn reply_frame(kind: u8, reply: Reply) -> Frame
     }
 }
 
+// The kind is a byte, as in `reply_frame`.
 fn figures_frame(kind: u8, figures: Settlement) -> Frame
     ensures { result ≡ reply_bytes kind (Reply.Figures figures) }
 {
@@ -78,6 +79,7 @@ fn figures_frame(kind: u8, figures: Settlement) -> Frame
     ])
 }
 
+// The kind is a byte, as in `reply_frame`.
 fn statement_frame(kind: u8, statement: Statement) -> Frame
     ensures { result ≡ reply_bytes kind (Reply.Stated statement) }
 {

@@ -21,7 +21,7 @@ pub fn read_call(line: &[u8], working: &mut [u8]) -> Result<Call, LineFault>
 }
 
 // Puts the bytes that the digits of a line write at the start of the working space, and gives their
-// count, as the space is lent.
+// count, as the space is lent: 32 bytes at least, as in `read_call`.
 fn read_frame(line: &[u8], working: &mut [u8]) -> Result<usize, LineFault>
     requires { 32 ≤ length working.old }
     ensures { MatchResult result (λ n. (n ≤ 32) × (frame_of line.now ≡ Ok (take n working.new))) (λ fault. frame_of line.now ≡ Err fault) }

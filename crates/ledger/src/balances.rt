@@ -39,7 +39,7 @@ impl Balances {
     }
 }
 
-// Each side's movement is written out once.
+// A ledger has two calls for the two sides.
 impl Ledger for Balances {
     ghost holding = { λ s. balances_holding s.balances };
 

@@ -54,8 +54,9 @@ pub fn read_line<L: Ledger>(
     Ok(write_line(answers, at, &answer_frame(said)))
 }
 
-// Makes the call that a line writes, and gives its kind byte with the reply; the working space, which is
-// long enough, is cleared on every way out.
+// Makes the call that a line writes, and gives its kind byte, as `answer_frame` takes it, with the reply.
+// The working space is cleared on every way out; it is 32 bytes at least and no `&mut [u8; 32]`, since the
+// host lends what it has. Book and ledger are two, as in `read_line`.
 fn hear<L: Ledger>(
     book: &mut Book<'_>,
     ledger: &mut L,

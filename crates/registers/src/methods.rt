@@ -1,4 +1,5 @@
-// The register's methods.
+// The register's methods. Each says that the places stay as many and the same memory: no type ties what
+// was to what is.
 ghost use Rattle.std.specs.Prelude.{◌≡◌, ◌≤◌, [], length, is_ok, is_some, if◌then◌else◌, MatchResult};
 ghost use Rattle.registers.specs.Held.{rows, room, entering};
 ghost use Rattle.registers.specs.Places.{Stands, Enters};

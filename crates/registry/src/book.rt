@@ -1,4 +1,5 @@
 // A new book, and the calls by their names. What a call promises, it promises in the stage that it needs.
+// What a phase holds is handed over by `in_stage`, which has matched it.
 ghost use Rattle.std.specs.Prelude.{◌≡◌, ℕ, sum_by};
 ghost use Rattle.rules.specs.Records.{certified_level, offered_amount};
 ghost use Rattle.std.specs.Option.{ok_or};
@@ -93,7 +94,7 @@ impl<'a> Book<'a> {
         Ok(Reply::Done)
     }
 
-    // The fields are as the call has them, and not yet judged.
+    // The fields are as the call has them: the method is a number, since it is judged third.
     pub(crate) fn certify<L: Ledger>(
         &mut self,
         ledger: &mut L,

@@ -20,8 +20,8 @@ impl<'a> Book<'a> {
         self.in_stage(ledger, call)
     }
 
-    // Judges the stage first, in one match: the call that the stage allows changes the state in place, any
-    // other is refused.
+    // Judges the stage first, in one match on stage and call, the form that the project asks for: the call
+    // that the stage allows changes the state in place, any other is refused.
     fn in_stage<L: Ledger>(&mut self, ledger: &mut L, call: Call) -> Result<Reply, RegistryFault>
         ensures { Called call result (year_in self.old) (year_in self.new) (L.Ledger.holding ledger.old) (L.Ledger.holding ledger.new) (L.Ledger.posts ledger.old) (L.Ledger.posts ledger.new) }
     {
@@ -55,7 +55,7 @@ impl<'a> Book<'a> {
             (Phase::Trading(_), Call::Recall { offer, account }) => {
                 self.end(ledger, Party::Seller, offer, account)
             }
-            // Two arms: the borrow check has no rule for one over both stages.
+            // Two arms: one over both stages was tried, and the borrow check has no rule for it.
             (
                 Phase::Trading(terms),
                 Call::Load {

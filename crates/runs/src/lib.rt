@@ -18,7 +18,8 @@ pub struct Outcome {
     pub answer: Result<Reply, RegistryFault>,
 }
 
-// Makes the calls in turn, as far as there are places for their outcomes, and gives their number. The
+// Makes the calls in turn, as far as there are places for their outcomes, and gives their number. The host
+// lends these places, since nothing is allocated: so calls and outcomes are two slices. The
 // book and its ledger are two: a host may ask its ledger between runs. From a new book on, over any ledger
 // in any state, the law holds after every call, and what the book and the ledger then hold is what this
 // history says.

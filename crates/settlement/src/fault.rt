@@ -6,7 +6,7 @@ use refusals::Refusal;
 
 #[derive(Clone, Copy, PartialEq, Eq, Debug)]
 pub enum SheetFault {
-    // The field of the price, 1 for shortages or 2 for surpluses.
+    // The field of the price, 1 for shortages or 2 for surpluses: a number, as an answer line has it.
     PriceOutOfRange(u8),
     GapOutOfRange,
     Full,

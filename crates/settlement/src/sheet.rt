@@ -19,7 +19,8 @@ pub struct Sheet {
     totals: Totals,
 }
 
-// An ended sheet, which pays. Surpluses are in guarantees, money in cents.
+// An ended sheet, which pays. Surpluses are in guarantees, money in cents. Its list of gaps is no ghost
+// data, as with `Sheet`.
 #[derive(Drop)]
 pub struct PayingSheet {
     // for surpluses the paid price, not the quoted one

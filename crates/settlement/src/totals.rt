@@ -1,4 +1,4 @@
-// The totals of the gaps entered into a sheet, in guarantees, and their count.
+// The totals of the gaps entered into a sheet, in guarantees, and their count: no buffer stands beside it.
 ghost use Rattle.std.specs.Prelude.{◌≡◌, ◌+◌, ◌*◌, ◌<◌, ◌≤◌, List, [], ◌∷◌, ◌++◌, ℤ};
 ghost use Rattle.settlement.specs.Rules.{widest_shortage, widest_surplus, most_gaps};
 ghost use Rattle.settlement.specs.Tallies.{Tally, Tallied};

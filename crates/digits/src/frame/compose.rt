@@ -6,7 +6,8 @@ use crate::frame::{Field, Frame};
 use arrayvec::CapacityError;
 
 impl Frame {
-    // The fields in their order; an empty one where they take more than its room, and no `Option`: it cannot fail.
+    // The fields in their order; an empty frame where they take more than its room. No `Option`: the fields
+    // of every answer fit, and a caller would have to answer something for none.
     pub fn of(fields: &[Field]) -> Frame
         ensures { result ≡ fitting (composed fields.now) }
     {

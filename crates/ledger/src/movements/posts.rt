@@ -46,7 +46,7 @@ impl<'a> Movements<'a> {
 }
 
 // The trait's clauses stand here again, since an impl's own take the place of
-// them all. Each side's movement is written out once.
+// them all. A ledger has two calls for the two sides.
 impl Ledger for Movements<'_> {
     ghost holding = { movements_holding };
 

@@ -21,7 +21,8 @@ pub struct Prices {
 impl Prices {
     ghost use Rattle.settlement.specs.Sheets.{price_fault};
 
-    // Two prices (5.6.1.2), neither above the highest.
+    // Two prices (5.6.1.2), neither above the highest. The registry judges the same before, for a refusal of
+    // its own.
     pub fn new(shortage: u32, surplus: u32) -> Result<Prices, SheetFault>
         ensures answer { result_err result ≡ price_fault shortage surplus }
         ensures shortage { IfOk result (λ prices. prices.shortage ≡ shortage) }
