@@ -1,10 +1,12 @@
 -- The obligation of an account, and the gaps of all of them.
-use Rattle.std.proofs.Common.{◌≡◌, ℕ, suc, ◌+◌, ◌<◌, ◌≤◌, List, [], ◌∷◌, ◌++◌, map, length, get_or, take, ℤ, pos, ◌-ℤ◌, Some, Ok, sym, ap, ◌∙◌, ⊎_elim, arith}
+use Rattle.std.proofs.Common.{◌≡◌, ℕ, suc, ◌+◌, ◌*◌, ◌<◌, ◌≤◌, List, [], ◌∷◌, ◌++◌, map, length, get_or, take, ℤ, pos, ◌-ℤ◌, nat_abs, Some, Ok, sym, ap, ◌∙◌, ⊎_elim, arith}
 use Rattle.std.specs.List.{ContainsAt}
 use Rattle.std.proofs.lemmas.List.{length-map, length-take-le, map_more}
+use Rattle.std.proofs.lemmas.Bool.{le-leb}
 use Rattle.registers.specs.Rows.{lookup}
 use Rattle.registers.specs.Laws.{Member}
 use Rattle.registers.proofs.Members.{lookup_has}
+use Rattle.curves.specs.Obligations.{most_added, obligation_in_guarantees, obligation_of as obligation_judged}
 use Rattle.settlement.specs.Rules.{most_gaps}
 use Rattle.settlement.specs.Tallies.{Fine}
 use Rattle.settlement.specs.Sheets.{entering, entered}
@@ -13,6 +15,11 @@ use Rattle.rules.specs.declared.records.Account.{Account}
 use Rattle.rules.specs.Records.{account_number}
 use Rattle.rules.specs.declared.calls.Statement.{Statement}
 use Rattle.rules.specs.Settling.{obligation_of, gap_of, gaps_of}
+
+-- an obligation within the terms is not refused
+pub obligation_made : (n security : ℕ) (sum : ℤ) → (1 ≤ n) × (n ≤ 400) × (security ≤ 2000) → nat_abs sum ≤ n * (2 * most_added) → obligation_judged n security sum ≡ Ok (obligation_in_guarantees n security sum)
+obligation_made n security sum terms most =
+    rw (le-leb 1 n terms.0, le-leb n 400 terms.1, le-leb security 2000 terms.2, le-leb (nat_abs sum) 1000000000000000000 (omega arith))
 
 module _ (n security : ℕ) (f : ℕ → ℕ) (accounts : List Account) where
   -- there is room for the gap of each account

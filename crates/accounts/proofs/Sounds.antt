@@ -1,10 +1,10 @@
 -- What kept records say of each account, and how many there are.
-use Rattle.std.proofs.Common.{◌≡◌, ℕ, ◌≤◌, List, [], ◌∷◌, length, Some, None, Option, refl, arith, lit<, lit≤}
+use Rattle.std.proofs.Common.{◌≡◌, ℕ, ◌<◌, ◌≤◌, List, [], ◌∷◌, length, get_or, Some, None, Option, refl, arith, lit<, lit≤}
 use mathlib.Core.HLevel.{×_prop}
 use mathlib.Core.Logic.{∥∥₁_elim}
 use native.Mathlib.Bridge.{le_prop}
 use Rattle.std.specs.List.{AllByRecursion}
-use Rattle.std.proofs.ByRecursion.{All-weaker}
+use Rattle.std.proofs.ByRecursion.{All-get_or, All-weaker}
 use Rattle.registers.specs.Rows.{Above, Within, Numbered, lookup}
 use Rattle.registers.proofs.Members.{lookup_has, all_member}
 use Rattle.registers.proofs.Entries.{place_for}
@@ -21,6 +21,9 @@ all_sound n (a ∷ accounts) low high bounded = ((low.0, high.0, bounded.0.0, bo
 
 kept_sound : (n : ℕ) (accounts : List Account) → Kept n accounts → AllByRecursion (Sound n) accounts
 kept_sound n accounts kept = all_sound n accounts kept.0.1 kept.0.2 kept.1
+
+pub sound_at : (n : ℕ) (accounts : List Account) (i : ℕ) (d : Account) → ∥ Kept n accounts ∥₁ → i < length accounts → Sound n (get_or accounts i d)
+sound_at n accounts i d kept within = ∥∥₁_elim kept (sound_prop n (get_or accounts i d)) (λ k. All-get_or (Sound n) accounts i d within (kept_sound n accounts k))
 
 pub sound_found : (n : ℕ) (accounts : List Account) (a : Account) → ∥ Kept n accounts ∥₁ → lookup account_number a.number accounts ≡ Some a → Sound n a
 sound_found n accounts a kept found = ∥∥₁_elim kept (sound_prop n a) (λ k. all_member (Sound n) accounts a (kept_sound n accounts k) (lookup_has account_number a.number accounts a found).0)

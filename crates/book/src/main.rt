@@ -7,6 +7,11 @@ use ledger::{ACCOUNTS, Balances};
 use registry::{Book, ENTITIES, OFFERS};
 use rules::{Account, Entity, Offer};
 use std::io;
+use std::io::{ErrorKind, Read, Write};
+
+// Bytes read at a time. Not by `io::copy`, which takes 8,192: a pipe holds as many as these, and whoever
+// writes all lines before it reads an answer would wait for ever that much sooner.
+const BLOCK: usize = 65_536;
 
 fn main(rt: HostRuntime) -> io::Result<()> {
     let mut accounts = [Account::EMPTY; ACCOUNTS as usize];
@@ -14,6 +19,16 @@ fn main(rt: HostRuntime) -> io::Result<()> {
     let mut offers = [Offer::EMPTY; OFFERS];
     let book = Book::new(&mut accounts, &mut entities, &mut offers);
     let mut answering = Answering::new(book, Balances::new(), rt.stdout());
-    io::copy(&mut rt.stdin(), &mut answering)?;
+    let mut input = rt.stdin();
+    let mut block = [0; BLOCK];
+    for _ in 0..u64::MAX {
+        match input.read(&mut block) {
+            Ok(0) => break,
+            Ok(count) => answering.write_all(&block[..count])?,
+            // A signal came: nothing was read.
+            Err(error) if error.kind() == ErrorKind::Interrupted => {}
+            Err(error) => return Err(error),
+        }
+    }
     answering.finish()
 }

@@ -62,7 +62,6 @@ pub struct Step {
 }
 
 // What a step adds to the sum of its account.
-#[tactic(auto, using(crate::proofs::Sums::profiled_most, crate::proofs::Sums::losses_most))]
 pub fn added(step: Step) -> Result<i64, OutOfRange>
     ensures answer { result ≡ added_by step }
     ensures bound { IfOk result (λ x. unsigned_abs x ≤ most_added) }
@@ -107,7 +106,8 @@ impl Step {
     // The gradient is per degree colder, so it counts the degrees from the extreme up to the real (5.2.1.4.1).
     fn profiled(self) -> i64
         requires { readings_judged Sort.Profiled self ≡ Ok tt }
-        ensures { result ≡ profiled self }
+        ensures answer { result ≡ profiled self }
+        ensures bound { unsigned_abs result ≤ most_added }
     {
         let warmth = Warmth {
             gradient: self.gradient,
@@ -121,7 +121,8 @@ impl Step {
     // The gradient is per degree warmer, so it counts the degrees from the real up to the extreme (5.2.1.5.1).
     fn losses(self) -> i64
         requires { readings_judged Sort.Losses self ≡ Ok tt }
-        ensures { result ≡ losses self }
+        ensures answer { result ≡ losses self }
+        ensures bound { unsigned_abs result ≤ most_added }
     {
         let warmth = Warmth {
             gradient: self.gradient,
@@ -150,7 +151,8 @@ impl Warmth {
     // A power in kW with what the degrees add to it.
     fn added_to(self, power: u32) -> i64
         requires { power ≤ 2 * 99999999 }
-        ensures { result ≡ pos (100000 * power) +ℤ self.gradient *ℤ pos self.coefficient *ℤ (self.to -ℤ self.from) }
+        ensures answer { result ≡ pos (100000 * power) +ℤ self.gradient *ℤ pos self.coefficient *ℤ (self.to -ℤ self.from) }
+        ensures bound { unsigned_abs result ≤ most_added }
     {
         i64::from(PARTS_PER_KW) * i64::from(power) + self.adds()
     }

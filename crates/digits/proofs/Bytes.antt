@@ -1,17 +1,26 @@
 -- Powers of 256, and bytes shifted into a number one after another.
-use Rattle.std.proofs.Common.{◌≡◌, ℕ, suc, ◌+◌, ◌*◌, ◌%◌, ◌^◌, ◌<◌, ◌≤◌, List, [], ◌∷◌, length, get_or, take, drop, bit_or, fold, Fits, w8, add-one, refl, ap, ◌∙◌, arith}
+use Rattle.std.proofs.Common.{◌≡◌, ℕ, suc, ◌+◌, ◌-◌, ◌*◌, ◌%◌, ◌^◌, ◌<◌, ◌≤◌, List, [], ◌∷◌, length, get_or, take, drop, min, bit_or, fold, Fits, w8, add-one, refl, ap, ◌∙◌, arith}
 use native.Mathlib.Nat.{pow-succ', pow-le-pow_right}
 use Rattle.std.proofs.lemmas.Nat.{or_shifted}
-use Rattle.std.proofs.lemmas.List.{places, length-take}
+use Rattle.std.proofs.lemmas.List.{same_lists, places, length-take, length-drop}
 use Rattle.std.proofs.lemmas.Int.Digits.{number_lt}
+use Rattle.std.proofs.lemmas.Slice.{between_to_end}
+use Rattle.std.specs.List.{between}
 use Rattle.std.specs.Int.Digits.{number_from_digits_after, AllBelowBase}
 use Rattle.digits.specs.Numbers.{field}
 
-power_more : (i : ℕ) → 256 ^ (i + 1) ≡ 256 * 256 ^ i
+pub power_more : (i : ℕ) → 256 ^ (i + 1) ≡ 256 * 256 ^ i
 power_more i = rw add-one (pow-succ' 256 i)
 
 pub power_le : (i j : ℕ) → i ≤ j → 256 ^ i ≤ 256 ^ j
 power_le i j h = pow-le-pow_right {n = 256} (omega arith) h
+
+-- fewer than eight bytes and one more fit 64 bits
+pub one_more_fits : (i n : ℕ) → n < 256 ^ i → i < 8 → 256 * n + 255 < 2 ^ 64
+one_more_fits i n h lt = omega (arith, power_more i, power_le (i + 1) 8 (omega arith))
+
+pub under_power : (n m width : ℕ) (xs : List ℕ) → n < 256 ^ length (take m xs) → m ≤ width → n < 256 ^ width
+under_power n m width xs h le = omega (arith, power_le (length (take m xs)) width (simp length-take (omega arith)))
 
 -- what a number of 64 bits is with one more byte shifted in
 abbrev pub shifted_in : ℕ → ℕ → ℕ
@@ -42,3 +51,13 @@ field_shifted frame at width n fit le e =
     let l : length bytes ≤ width = simp length-take (omega arith) in
     let is = e ∙ shifted bytes 0 0 small (omega arith) (omega arith) in
     (is, omega (arith, is, number_lt 256 bytes (below bytes small), power_le (length bytes) width l))
+
+-- what follows a place, where a place past the end is the end
+pub from_place : (frame : List ℕ) (at place : ℕ) → place ≡ min at (length frame) → between place (length frame) frame ≡ drop at frame
+from_place frame at place e =
+    between_to_end frame place (length frame) (omega arith) ∙ same_lists _ _ (grind (arith, length-drop)) (λ k d h. grind (arith, places, length-drop))
+
+-- a part cut at the list's end
+pub part_is : (xs : List ℕ) (at width start count : ℕ) → start ≡ min at (length xs) → count ≡ min width (length xs - start) → take ((start + count) - start) (drop start xs) ≡ take width (drop at xs)
+part_is xs at width start count e f =
+    same_lists _ _ (simp (length-take, length-drop) (omega arith)) (λ k d h. grind (arith, places))

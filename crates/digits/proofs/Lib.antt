@@ -1,4 +1,5 @@
 pub mod Pairs
 pub mod Bytes
 pub mod Composed
+pub mod Zeros
 pub mod Turns

@@ -59,7 +59,7 @@ none_wrong line each =
 pub accepted : (line : List ℕ) (room n : ℕ) → Ok n ≡ reading line room → (first_wrong line ≡ None) × (length line ≡ 2 * n) × (n ≤ room)
 accepted line room n e = (grind (arith, nat_tests), grind (arith, nat_tests), grind (arith, nat_tests))
 
-length_bytes_of : (line : List ℕ) → length (bytes_of line) ≡ length line / 2
+pub length_bytes_of : (line : List ℕ) → length (bytes_of line) ≡ length line / 2
 length_bytes_of [] = refl
 length_bytes_of (h ∷ []) = refl
 length_bytes_of (h ∷ l ∷ cs) = let r = length_bytes_of cs in omega arith

@@ -32,6 +32,16 @@ fn bits_at(frame: &[u8], at: usize, width: usize) -> u64
     ensures answer { result ≡ field width at frame.now }
     ensures bound { result < 256 ^ width }
 {
-    let bytes = frame.iter().skip(at).take(width);
-    bytes.fold(0, |bits, byte| bits << 8 | u64::from(*byte))
+    // Not by `skip`, which walks to the place.
+    bits_of(&frame[at.min(frame.len())..], width)
+}
+
+// The first bytes as one number; as many as there are, up to the width.
+fn bits_of(bytes: &[u8], width: usize) -> u64
+    requires { width ≤ 8 }
+    ensures answer { result ≡ field width 0 bytes.now }
+    ensures bound { result < 256 ^ width }
+{
+    let first = bytes.iter().take(width);
+    first.fold(0, |bits, byte| bits << 8 | u64::from(*byte))
 }

@@ -1,1 +1,3 @@
 mod Folds
+mod Moves
+mod Replicas

@@ -1,10 +1,11 @@
 -- A block answered, one byte after another.
-use Rattle.std.proofs.Common.{◌≡◌, ℕ, ◌+◌, ◌<◌, ◌≤◌, Bool, true, false, List, [], ◌∷◌, ◌++◌, length, get_or, take, drop, Ok, Result, sym, refl, ap, ◌∙◌, subst, arith}
-use Rattle.std.proofs.lemmas.List.{take_more, take_at, append_assoc, length-append, length-take-le, drop-drop, drop_at}
+use Rattle.std.proofs.Common.{◌≡◌, ℕ, ◌+◌, ◌<◌, ◌≤◌, Bool, true, false, List, [], ◌∷◌, ◌++◌, length, get_or, take, drop, Ok, Err, Result, sym, refl, ap, ◌∙◌, subst, arith}
+use mathlib.Core.Path.{fun_ext}
+use Rattle.std.proofs.lemmas.List.{take_more, take_at, append_assoc, length-append, length-take-le, drop-drop, drop_at, take_all}
 use Rattle.rules.specs.Year.{Year}
 use Rattle.frames.specs.declared.fault.LineFault.{LineFault}
 use Rattle.frames.specs.Answers.{over}
-use Rattle.lines.specs.Lines.{Reading, LineRead, answer_line}
+use Rattle.lines.specs.Lines.{Reading, LineRead, Refused, Unchanged, answer_line}
 use Rattle.lines.specs.Blocks.{State, longer_line, LineEnded, Answered, nothing_yet, one_byte, line_end}
 
 -- what the loop keeps: the block up to i is answered by the first `written` bytes of the answer space, and the others are as they were
@@ -46,6 +47,10 @@ pub was_read : (fine : Bool) (line w w' a a' : List ℕ) (at n : ℕ) (r : Resul
 was_read true line w w' a a' at n r y y' f g p q so is = so
 was_read false line w w' a a' at n r y y' f g p q so is = let e = so.answer in absurd (let z : ◌≡◌ {A = ℕ} 0 1 = cc in omega arith)
 
+pub was_refused : (fine : Bool) (line w w' a a' : List ℕ) (at : ℕ) (fault : LineFault) (r : Result ℕ LineFault) (y y' : Year) (f g : ℕ → ℕ) (p q : ℕ) → Reading fine line w w' a a' at r y y' f g p q → r ≡ Err fault → Refused w w' a a' r y y' f g p q
+was_refused true line w w' a a' at fault r y y' f g p q so is = let e = so.answer in absurd (let z : ◌≡◌ {A = ℕ} 0 1 = cc in omega arith)
+was_refused false line w w' a a' at fault r y y' f g p q so is = so
+
 -- one line more
 pub up_to_line : (s : State) (block first w w' a a' line next : List ℕ) (i written n : ℕ) (r : Result ℕ LineFault) (y y' : Year) (f g : ℕ → ℕ) (p q : ℕ) → i < length block → get_or block i 0 ≡ 10 → next ≡ [] → written + n ≤ length a → length a' ≡ length a
     → LineRead line w w' a a' written r y y' f g p q → r ≡ Ok n
@@ -65,6 +70,13 @@ up_to_line s block first w w' a a' line next i written n r y y' f g p q lt ends 
       within = omega (arith, fits, count, so.same_length);
     }
 
+-- a line without space for its answer leaves everything as it stood
+pub same_state : (y y' : Year) (f g : ℕ → ℕ) (p q : ℕ) (line : List ℕ) → Unchanged y y' f g p q → ◌≡◌ {A = State} (record { line = line; year = y; holds = f; posts = p }) (record { line = line; year = y'; holds = g; posts = q })
+same_state y y' f g p q line so =
+    ap (λ (z : Year). record { line = line; year = z; holds = f; posts = p }) (sym so.year)
+    ∙ ap (λ (h : ℕ → ℕ). record { line = line; year = y'; holds = h; posts = p }) (sym (fun_ext so.holds))
+    ∙ ap (λ (k : ℕ). record { line = line; year = y'; holds = g; posts = k }) (sym so.posts)
+
 pub same_parts : (l l' : List ℕ) (y y' : Year) (f f' : ℕ → ℕ) (m m' : ℕ) → l ≡ l' → y ≡ y' → f ≡ f' → m ≡ m' → ◌≡◌ {A = State} (record { line = l; year = y; holds = f; posts = m }) (record { line = l'; year = y'; holds = f'; posts = m' })
 same_parts l l' y y' f f' m m' a b c d =
     ap (λ (x : List ℕ). record { line = x; year = y; holds = f; posts = m }) a
@@ -75,3 +87,9 @@ same_parts l l' y y' f f' m m' a b c d =
 pub moved_to : (s t t' : State) (block first answers answers' : List ℕ) (i written written' : ℕ) → t' ≡ t → answers' ≡ answers → written' ≡ written → UpTo s block i t first answers written → UpTo s block i t' first answers' written'
 moved_to s t t' block first answers answers' i written written' a b c so =
     subst (λ (x : State). UpTo s block i x first answers' written') (sym a) (subst (λ (x : List ℕ). UpTo s block i t first x written') (sym b) (subst (λ (x : ℕ). UpTo s block i t first answers x) (sym c) so))
+
+-- the whole block
+pub up_to_end : (s t : State) (block first answers : List ℕ) (i written : ℕ) → length block ≤ i → UpTo s block i t first answers written → UpTo s block (length block) t first answers written
+up_to_end s t block first answers i written past so =
+    let all : take i block ≡ take (length block) block = take_all i block past ∙ sym (take_all (length block) block (omega arith)) in
+    record { answered = subst (λ (bytes : List ℕ). Answered s bytes t (take written answers)) all so.answered; rest = so.rest; same_length = so.same_length; within = so.within }

@@ -1,11 +1,12 @@
 -- Offers returned to their sellers, one after another.
-use Rattle.std.proofs.Common.{◌≡◌, ℕ, zero, suc, ◌+◌, ◌<◌, ◌≤◌, Bool, true, false, cond, eqb, leb, List, [], ◌∷◌, length, get_or, take, Some, None, Ok, sum_by, Result, sym, refl, ap, ◌∙◌, subst, arith}
+use Rattle.std.proofs.Common.{◌≡◌, ℕ, zero, suc, ◌+◌, ◌<◌, ◌≤◌, Bool, true, false, cond, eqb, leb, List, [], ◌∷◌, length, get_or, take, drop, Some, None, Ok, sum_by, Option, Result, sym, refl, ap, ◌∙◌, subst, arith}
 use mathlib.Core.Bool.{Bool-set}
 use mathlib.Core.Logic.{∥∥₁_elim}
 use native.Mathlib.Bridge.{le_prop}
 use Rattle.std.proofs.ByRecursion.{All-get_or}
+use Rattle.std.proofs.lemmas.List.{take_all, drop_more, drop_all}
 use Rattle.std.proofs.lemmas.List.Sums.{sum_by-cons, sum_by_more, sum_by-take-le}
-use Rattle.std.proofs.lemmas.Bool.{leb-true, le-leb, eqb-true, cond-true}
+use Rattle.std.proofs.lemmas.Bool.{leb-true, le-leb, eqb-true, cond-true, cond-false}
 use Rattle.ledger.specs.declared.fault.LedgerFault.{LedgerFault}
 use Rattle.ledger.specs.Rules.{limit, known, crediting, held_after, PostsFall}
 use Rattle.rules.specs.declared.records.Offer.{Offer}
@@ -30,6 +31,22 @@ room_at f all (o ∷ os) i d lt none = go (leb (f o.seller + all) limit) refl no
     go true e n zero lt later = leb-true (f o.seller + all) limit e
     go true e n (suc i) lt later = later i (omega arith) n
     go false e n i lt later = absurd (let z : ◌≡◌ {A = ℕ} 0 1 = cc in omega arith)
+
+-- the search for an offer without room, at the offer i
+room_step : (f : ℕ → ℕ) (all : ℕ) (os : List Offer) (i : ℕ) (d : Offer) (found : Option ℕ) → i < length os → first_without_room f all (drop i os) ≡ found
+    → found ≡ cond (leb (f (get_or os i d).seller + all) limit) (first_without_room f all (drop (i + 1) os)) (Some (get_or os i d).seller)
+room_step f all os i d found lt is = sym is ∙ ap (first_without_room f all) (drop_more os i d lt)
+
+pub room_next : (f : ℕ → ℕ) (all : ℕ) (os : List Offer) (i : ℕ) (d : Offer) (found : Option ℕ) → i < length os → first_without_room f all (drop i os) ≡ found
+    → leb (f (get_or os i d).seller + all) limit ≡ true → first_without_room f all (drop (i + 1) os) ≡ found
+room_next f all os i d found lt is room = sym (room_step f all os i d found lt is ∙ cond-true (leb (f (get_or os i d).seller + all) limit) _ _ room)
+
+pub room_not : (f : ℕ → ℕ) (all : ℕ) (os : List Offer) (i : ℕ) (d : Offer) (found : Option ℕ) → i < length os → first_without_room f all (drop i os) ≡ found
+    → leb (f (get_or os i d).seller + all) limit ≡ false → Some (get_or os i d).seller ≡ found
+room_not f all os i d found lt is room = sym (room_step f all os i d found lt is ∙ cond-false (leb (f (get_or os i d).seller + all) limit) _ _ room)
+
+pub room_everywhere : (f : ℕ → ℕ) (all : ℕ) (os : List Offer) (i : ℕ) (found : Option ℕ) → length os ≤ i → first_without_room f all (drop i os) ≡ found → None ≡ found
+room_everywhere f all os i found past is = sym (ap (first_without_room f all) (drop_all i os past)) ∙ is
 
 -- a credit with an account, an amount, a post and room is accepted
 pub credit_accepted : (f : ℕ → ℕ) (m a x : ℕ) → known a ≡ true → 1 ≤ x → 1 ≤ m → f a + x ≤ limit → crediting f m a x ≡ Ok (f a + x)
@@ -82,3 +99,9 @@ returned_next os i d f g h m n q r lt real enough room so is then fall =
 
 pub returned_none : (os : List Offer) (f : ℕ → ℕ) (m : ℕ) → Returned os 0 f f m m
 returned_none os f m = record { holds = λ k. omega arith; most = omega arith; least = omega arith }
+
+pub returned_all : (os : List Offer) (i : ℕ) (f g : ℕ → ℕ) (m n : ℕ) → length os ≤ i → i ≤ length os → Returned os i f g m n
+    → ((k : ℕ) → g k ≡ f k + returned_to k os) × (n ≤ m) × (m ≤ n + length os)
+returned_all os i f g m n past within so =
+    let all = take_all i os past in
+    ((λ k. so.holds k ∙ ap (λ xs. f k + returned_to k xs) all), so.most, omega (arith, so.least))

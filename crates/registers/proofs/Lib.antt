@@ -5,3 +5,4 @@ pub mod Order
 pub mod Members
 pub mod Sums
 pub mod Entries
+mod Moves

@@ -1,6 +1,7 @@
 // The register's methods. Each says that the places stay as many and the same memory: no type ties what
 // was to what is.
-ghost use Rattle.std.specs.Prelude.{◌≡◌, ◌≤◌, [], length, is_ok, is_some, if◌then◌else◌, MatchResult};
+ghost use Rattle.std.specs.Prelude.{◌≡◌, ◌<◌, ◌≤◌, [], length, is_ok, is_some, if◌then◌else◌, MatchResult};
+ghost use Rattle.std.specs.List.{AllWithin};
 ghost use Rattle.registers.specs.Held.{rows, room, entering};
 ghost use Rattle.registers.specs.Places.{Stands, Enters};
 ghost use Rattle.registers.specs.Rows.{lookup, inserted, without, replaced};
@@ -103,6 +104,28 @@ impl<'a, R: Keyed> Register<'a, R> {
     fn seek(&self, number: u16) -> Result<usize, usize>
         ensures { MatchResult result (λ i. Stands R.key number i (rows self.now)) (λ i. Enters R.key number i (rows self.now)) }
     {
-        self.records().binary_search_by_key(&number, |r| r.number())
+        let (start, end) = self.span(number);
+        let found = self.records()[start..end].binary_search_by_key(&number, |r| r.number());
+        match found {
+            Ok(i) => Ok(start + i),
+            Err(i) => Err(start + i),
+        }
+    }
+
+    // The span of places in which to look for the number: the records ahead of it are below, those behind it
+    // above. Its end doubles until the number is reached, so one near the front is soon found.
+    fn span(&self, number: u16) -> (usize, usize)
+        ensures within { (result.0 ≤ result.1) × (result.1 ≤ length (rows self.now)) }
+        ensures ahead { AllWithin (λ r. R.key r < number) (rows self.now) 0 result.0 }
+        ensures behind { AllWithin (λ r. number < R.key r) (rows self.now) result.1 (length (rows self.now)) }
+    {
+        let records = self.records();
+        let mut start = 0;
+        let mut end = records.len().min(1);
+        while end < records.len() && records[end - 1].number() < number {
+            start = end;
+            end += end.min(records.len() - end);
+        }
+        (start, end)
     }
 }

@@ -15,6 +15,7 @@ use Rattle.registers.specs.Held.{entering}
 use Rattle.registers.proofs.Members.{lookup_has}
 use Rattle.registers.proofs.Order.{all_inserted, all_without}
 use Rattle.registers.proofs.Entries.{taken_in as entry_accepted, numbered_entered, by_entry, never_full}
+use Rattle.rules.specs.declared.calls.Stage.TheVariants.{Closed}
 use Rattle.rules.specs.declared.records.Account.{Account}
 use Rattle.rules.specs.declared.records.Offer.{Offer}
 use Rattle.rules.specs.Records.{account_number, offer_number}
@@ -23,7 +24,7 @@ use Rattle.rules.specs.Facts.{new_account}
 use Rattle.accounts.specs.Bounds.{Bounded, Kept}
 use Rattle.registry.specs.declared.phase.Phase.{Phase}
 use Rattle.registry.specs.declared.phase.Phase.TheVariants.{Blank as IsBlank, Trading as IsTrading, Closed as IsClosed, Settled as IsSettled}
-use Rattle.registry.specs.Phases.{half_hours_of}
+use Rattle.registry.specs.Phases.{stage_of, half_hours_of, security_of}
 
 -- what held of no half-hours holds of more
 pub kept_longer : (m n : ℕ) (accounts : List Account) → m ≤ n → Kept m accounts → Kept n accounts
@@ -103,6 +104,13 @@ half_hours_most IsBlank = lit≤ tt
 half_hours_most (IsTrading terms) = terms.n_most
 half_hours_most (IsClosed terms) = terms.n_most
 half_hours_most (IsSettled terms prices) = terms.n_most
+
+-- the terms of a year that is closed
+pub terms_closed : (p : Phase) → stage_of p ≡ Closed → (1 ≤ half_hours_of p) × (half_hours_of p ≤ 400) × (security_of p ≤ 2000)
+terms_closed IsBlank is = absurd (let z : ◌≡◌ {A = ℕ} 0 1 = cc in omega arith)
+terms_closed (IsTrading terms) is = absurd (let z : ◌≡◌ {A = ℕ} 0 1 = cc in omega arith)
+terms_closed (IsClosed terms) is = (terms.n_least, terms.n_most, terms.security_most)
+terms_closed (IsSettled terms prices) is = absurd (let z : ◌≡◌ {A = ℕ} 0 1 = cc in omega arith)
 
 -- an account that was found is found by its own number
 pub found_by_number : (n : ℕ) (xs : List Account) (x : Account) → Some x ≡ lookup account_number n xs → lookup account_number x.number xs ≡ Some x

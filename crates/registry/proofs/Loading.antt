@@ -26,7 +26,7 @@ use Rattle.rules.specs.Calls.{Called}
 use Rattle.accounts.specs.declared.loading.Addition.{Addition}
 use Rattle.accounts.specs.Additions.{addition_of}
 use Rattle.accounts.specs.Bounds.{Bounded, Kept}
-use Rattle.registry.proofs.Calling.{judged_by_ruling, judged_value}
+use Rattle.registry.proofs.Calling.{refused, judged_by_ruling, judged_value}
 
 -- past the ranges, the account decides
 pub load_judged : (y : Year) (f : ℕ → ℕ) (m a t : ℕ) (s : Step) (added : Addition) (o : Option Account) → needs (Load a t s) y.stage ≡ true → judged 1 (fields y (Load a t s)) (addition_of s) ≡ Ok added → account_in y a ≡ o → loading o (sort_at s.sort) t ≡ judge y f m (Load a t s)
@@ -41,6 +41,10 @@ fine_in_year y n a t s r same is = ap (λ (k : ℕ). judged 1 (known a ∷ withi
 pub load_in_year : (y : Year) (a t : ℕ) (s : Step) (added : Addition) → judged 1 (fields y (Load a t s)) (addition_of s) ≡ Ok added → t ≤ y.n
 load_in_year y a t s added fine = leb-true t y.n (and_parts (leb 1 t) (leb t y.n) (fine_if_accepted 1 (fields y (Load a t s)) (addition_of s) added fine).1.1.0).1
 
+-- a record found under the same number
+pub found_as : (n a : ℕ) (xs : List Account) (o : Option Account) → n ≡ a → o ≡ lookup account_number n xs → lookup account_number a xs ≡ o
+found_as n a xs o same is = ap (λ (k : ℕ). lookup account_number k xs) (sym same) ∙ sym is
+
 -- whether the step is the next of its series
 next_or_not : (b : Bool) (x y : Account) (fault e : RegistryFault) → Ok y ≡ cond b (Ok x) (Err fault) → (b ≡ true) × (y ≡ x)
 next_or_not true x y fault e is = (refl, cc)
@@ -51,6 +55,14 @@ out_of_turn true x fault e is = absurd (let z : ◌≡◌ {A = ℕ} 0 1 = cc in 
 out_of_turn false x fault e is = (refl, cc)
 
 module _ (y : Year) (f : ℕ → ℕ) (m a t : ℕ) (s : Step) (added : Addition) (x : Account) (stage : needs (Load a t s) y.stage ≡ true) (fine : judged 1 (fields y (Load a t s)) (addition_of s) ≡ Ok added) (found : account_in y a ≡ Some x) where
+  pub load_turned_away : (e : RegistryFault) → Err e ≡ cond (eqb t (steps_loaded added.sort x + 1)) (Ok (grown_by added.sort added.value x)) (Err (OutOfTurn 3)) → Called (Load a t s) (Err e) y y f f m m
+  load_turned_away e is =
+      let same = judged_value 1 (fields y (Load a t s)) (addition_of s) added fine in
+      let not_next = out_of_turn (eqb t (steps_loaded added.sort x + 1)) _ (OutOfTurn 3) e is in
+      let b : eqb t (steps_loaded (sort_at s.sort) x + 1) ≡ false = ap (λ (k : Addition). eqb t (steps_loaded k.sort x + 1)) (sym same) ∙ not_next.0 in
+      let answer : Err e ≡ judge y f m (Load a t s) = ap Err not_next.1 ∙ sym (ap (λ (c : Bool). cond c (Ok Done) (Err (OutOfTurn 3))) b) ∙ load_judged y f m a t s added (Some x) stage fine found in
+      refused (Load a t s) e y f f m m answer (λ k. refl) (omega arith) (omega arith)
+
   pub load_called : (grown : Account) (xs : List Account) → Ok grown ≡ cond (eqb t (steps_loaded added.sort x + 1)) (Ok (grown_by added.sort added.value x)) (Err (OutOfTurn 3)) → xs ≡ replaced account_number grown y.accounts → Called (Load a t s) (Ok Done) y (with_accounts xs y) f f m m
   load_called grown xs is after =
       let same = judged_value 1 (fields y (Load a t s)) (addition_of s) added fine in

@@ -5,7 +5,7 @@ use Rattle.std.proofs.lemmas.Bool.{cond_both, eqb-true, eqb-false, cases_order}
 use Rattle.std.proofs.lemmas.Bool.Decides.{nat_tests}
 use Rattle.settlement.specs.Rules.{total_surplus_of, collected, price_within, paid_price_of, Fair}
 
-price_within_quote : (money guarantees quoted : ℕ) → price_within money guarantees quoted ≤ quoted
+pub price_within_quote : (money guarantees quoted : ℕ) → price_within money guarantees quoted ≤ quoted
 price_within_quote money guarantees quoted = grind (arith, nat_tests)
 
 pub price_within_money : (money guarantees quoted : ℕ) → guarantees * price_within money guarantees quoted ≤ money

@@ -1,11 +1,18 @@
 -- The lists behind a sheet's figures.
-use Rattle.std.proofs.Common.{ℕ, ◌+◌, ◌*◌, List, [], ◌∷◌, ◌++◌, ℤ, arith}
+use Rattle.std.proofs.Common.{ℕ, ◌+◌, ◌*◌, ◌≤◌, leb, List, [], ◌∷◌, ◌++◌, ℤ, arith}
 use mathlib.Core.Logic.{∥∥₁_map}
 use Rattle.std.proofs.ByRecursion.{All-push}
 use Rattle.std.proofs.lemmas.List.{length_push}
 use Rattle.std.proofs.lemmas.List.Sums.{sum_by_push}
-use Rattle.settlement.specs.Rules.{shortage, surplus, price_within}
+use Rattle.std.proofs.lemmas.Bool.{and_parts, leb-true}
+use Rattle.settlement.specs.Rules.{widest_shortage, widest_surplus, shortage, surplus, price_within}
 use Rattle.settlement.specs.Tallies.{Fine, Tally, Tallied, Due, Ended}
+
+pub fine_shortage : (gap : ℤ) → Fine gap → shortage gap ≤ widest_shortage
+fine_shortage gap fine = leb-true _ _ (and_parts (leb (shortage gap) widest_shortage) _ fine).0
+
+pub fine_surplus : (gap : ℤ) → Fine gap → surplus gap ≤ widest_surplus
+fine_surplus gap fine = leb-true _ _ (and_parts (leb (shortage gap) widest_shortage) _ fine).1
 
 -- one more gap at the end
 pub tally_push : (s t n : ℕ) (gaps : List ℤ) (gap : ℤ) → Fine gap → Tally s t n gaps → Tally (s + shortage gap) (t + surplus gap) (n + 1) (gaps ++ gap ∷ [])

@@ -1,12 +1,12 @@
-use Rattle.std.proofs.Common.{rules}
-use Rattle.std.proofs.lemmas.Iterator.{YieldsList-from_slice, YieldsList-from_take}
-use Rattle.std.proofs.lemmas.Iterator.Adapters.{YieldsList-from_skip}
-use Rattle.std.proofs.lemmas.Iterator.Consumers.{fold_from_yields_List}
-use Rattle.digits.proofs.Bytes.{shifted_in, field_shifted}
+use Rattle.std.proofs.Common.{take, ap, ◌∙◌}
+use Rattle.std.specs.Int.Digits.{number_from_digits}
+use Rattle.digits.proofs.Bytes.{from_place}
 use Rattle.digits.proofs.numbers.bits_at.Goals as goal
 
 pub returns : goal.returns
 returns c =
-    let shifted = fold_from_yields_List _ shifted_in 0 c.fold.result c.fold.ensures.ran (YieldsList-from_take c.args.width (YieldsList-from_skip c.args.at (YieldsList-from_slice c.args.frame.now cc) cc) cc) (λ bits x b q k. search rules) in
-    let said = field_shifted c.args.frame.now c.args.at c.args.width c.fold.result c.type_inv.frame c.requires shifted in
-    record { answer = said.0; bound = said.1 }
+    let rest = from_place c.args.frame.now c.args.at c.min.result c.min.ensures in
+    record {
+      answer = c.bits_of.ensures.answer ∙ ap (λ bytes. number_from_digits 256 (take c.args.width bytes)) rest;
+      bound = c.bits_of.ensures.bound;
+    }

@@ -13,6 +13,6 @@ invariant_of-self g c =
       account_places = s.account_places;
       entity_places = s.entity_places;
       offer_places = s.offer_places;
-      kept = ∥∥₁_map s.kept (kept_longer (half_hours_of s.phase) c.in_ok-terms.terms.n (rows s.accounts) (omega (arith, none)));
+      kept = ∥∥₁_map s.kept (kept_longer (half_hours_of s.phase) _ (rows s.accounts) (omega (arith, none)));
       real = s.real;
     }
